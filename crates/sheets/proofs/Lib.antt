@@ -1,0 +1,11 @@
+pub mod Stepping
+pub mod Alike
+pub mod Taking
+pub mod Standing
+pub mod Onward
+pub mod Encoding
+pub mod Written
+pub mod Filling
+pub mod Soundness
+pub mod Completeness
+pub mod Acceptance

@@ -1,0 +1,10 @@
+pub mod Words
+pub mod Bytes
+pub mod Places
+pub mod Contents
+pub mod Holdings
+pub mod Judging
+pub mod Scanning
+pub mod Machine
+pub mod Reading
+pub mod Writing
