@@ -1,0 +1,4 @@
+mod Cuts
+mod Counts
+mod Costs
+mod Leads

@@ -1,0 +1,5 @@
+pub mod Semirings
+pub mod Possibilities
+pub mod Drawing
+pub mod Bribing
+pub mod Leading
