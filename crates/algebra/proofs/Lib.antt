@@ -1,4 +1,4 @@
 mod Cuts
 mod Counts
 mod Costs
-mod Leads
+pub mod Leads

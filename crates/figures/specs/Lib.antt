@@ -1,0 +1,10 @@
+pub mod Lists
+pub mod Sums
+pub mod Fields
+pub mod Sets
+pub mod Brackets
+pub mod Figures
+pub mod Writings
+pub mod Theorems
+pub mod Examples
+pub mod Counts
