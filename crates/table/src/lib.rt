@@ -1,0 +1,4 @@
+// The table of figures.
+pub mod halves;
+#[cfg(test)]
+mod tests;
