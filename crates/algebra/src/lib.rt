@@ -1,4 +1,6 @@
 // Algebras: the kinds of figure that a table of draws can hold, and how one kind leads to another.
+#![tactic(auto)]
+
 pub mod algebra;
 pub mod bribe;
 pub mod choosing;

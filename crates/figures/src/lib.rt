@@ -1,4 +1,6 @@
 // Figures: what brackets are, how many there are, and what is proved of the sums over them.
+#![tactic(auto)]
+
 pub mod counts;
 #[cfg(test)]
 mod tests;

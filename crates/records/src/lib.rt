@@ -1,4 +1,6 @@
 // Records of filled brackets: words that tell who met whom and who won, and a verifier of them.
+#![tactic(auto)]
+
 mod judging;
 mod reading;
 #[cfg(test)]

@@ -1,4 +1,6 @@
 // Sheets: the words in which a region sends its facts, read into match sources and written from them.
+#![tactic(auto)]
+
 pub mod held;
 pub mod misread;
 pub mod reader;

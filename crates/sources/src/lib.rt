@@ -1,4 +1,6 @@
 // Match sources: where the facts of a sheet come from, and how they are amended.
+#![tactic(auto)]
+
 pub mod bribes;
 pub mod kind;
 pub mod matrix;

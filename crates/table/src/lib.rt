@@ -1,4 +1,6 @@
 // The table of figures: its stages, and the questions that a complete one answers.
+#![tactic(auto)]
+
 pub mod afresh;
 mod clearing;
 pub mod filling;

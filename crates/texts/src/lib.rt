@@ -1,4 +1,6 @@
 // What the program prints, as functions of the answers: the program itself only prints these texts.
+#![tactic(auto)]
+
 pub mod columns;
 pub mod help;
 pub mod pairings;

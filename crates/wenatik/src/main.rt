@@ -1,4 +1,6 @@
 // The program of the draw secretary and the integrity officer.
+#![tactic(auto)]
+
 mod report;
 mod told;
 
