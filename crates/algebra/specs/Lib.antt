@@ -3,6 +3,7 @@ pub mod Possibilities
 pub mod Drawing
 pub mod Bribing
 pub mod Leading
+pub mod Chances
 pub mod Costs
 pub mod Counts
 pub mod Cuts

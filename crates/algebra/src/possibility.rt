@@ -1,7 +1,7 @@
 // Possibility: whether something can happen at all.
 ghost use Rattle.std.specs.Prelude.{◌≡◌, Bool, if◌then◌else◌, Some, codes};
 ghost use Rattle.algebra.specs.Possibilities.{possibilities};
-ghost use Rattle.std.proofs.Common.{rules};
+ghost use Rattle.algebra.specs.Chances.{possibilities_lawful, possibilities_choose};
 
 use crate::algebra::Algebra;
 use crate::choosing::Choosing;
@@ -34,7 +34,7 @@ impl Algebra for Possibility {
 
     ghost semiring = { possibilities };
 
-    ghost lawful = { Prim.search rules };
+    ghost lawful = { possibilities_lawful };
 
     fn nothing() -> Possibility {
         Possibility { possible: false }
@@ -69,6 +69,8 @@ impl Algebra for Possibility {
 }
 
 impl Choosing for Possibility {
+    ghost chooses = { possibilities_choose };
+
     fn first_attains(self, other: Possibility) -> bool {
         !other.possible | self.possible
     }

@@ -10,12 +10,12 @@ use Rattle.cells.proofs.container.refresh_refusal.Goals as goal
 room : (n count : ℕ) → n ≤ 16 → ((1 * 2 ^ n) % 2 ^ 64) * n ≤ count → needed n ≤ count
 room n count few h = let e = ap (λ (x : ℕ). x * n) (one_shl n 64 (omega arith)) in omega (arith, e, h)
 
-pub returns-then-level-rounds-of : goal.returns-then-level-rounds-of
-returns-then-level-rounds-of c =
-    let p : 2 ^ c.rounds-of.result ≤ 2 ^ c.args.level = pow_mono c.if-level-rounds-of.true in
-    record { is-the-first-that-applies = none_left c.args.n c.args.count c.args.level (room c.args.n c.args.count (legal_some c.args.n c.requires).1 c.if-count-n.false) (omega (arith, p, c.rounds-of.ensures.makes-the-size)) }
+pub returns-then-level-rounds_of : goal.returns-then-level-rounds_of
+returns-then-level-rounds_of c =
+    let p : 2 ^ c.rounds_of.result ≤ 2 ^ c.args.level = pow_mono c.if-level-rounds_of.true in
+    record { is_the_first_that_applies = none_left c.args.n c.args.count c.args.level (room c.args.n c.args.count (legal_some c.args.n c.requires).1 c.if-count-n.false) (omega (arith, p, c.rounds_of.ensures.makes_the_size)) }
 
 pub returns : goal.returns
 returns c =
-    let p : 2 ^ c.args.level < 2 ^ c.rounds-of.result = pow-lt c.if-level-rounds-of.false in
-    record { is-the-first-that-applies = not_refused c.args.n c.args.count c.args.level (room c.args.n c.args.count (legal_some c.args.n c.requires).1 c.if-count-n.false) (omega (arith, p, c.rounds-of.ensures.makes-the-size)) }
+    let p : 2 ^ c.args.level < 2 ^ c.rounds_of.result = pow-lt c.if-level-rounds_of.false in
+    record { is_the_first_that_applies = not_refused c.args.n c.args.count c.args.level (room c.args.n c.args.count (legal_some c.args.n c.requires).1 c.if-count-n.false) (omega (arith, p, c.rounds_of.ensures.makes_the_size)) }

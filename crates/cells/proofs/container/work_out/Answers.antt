@@ -14,10 +14,10 @@ doubled level small = shl_whole 2 2 level 32 (omega arith) (omega arith) ∙ sym
 pub overflow-shl-level : goal.overflow-shl-level
 overflow-shl-level g c = let a = admitted _ (length c.args.memory.now) c.args.level (g.met.S.MatchSource.lawful c.args.source.now).size_legal c.requires in omega (arith, a.small)
 
-pub refresh-level-requires : goal.refresh-level-requires
-refresh-level-requires g c =
+pub refresh_level-requires : goal.refresh_level-requires
+refresh_level-requires g c =
     let a = admitted _ (length c.args.memory.now) c.args.level (g.met.S.MatchSource.lawful c.args.source.now).size_legal c.requires in
-    let is = c.size.ensures.is-the-size-of-the-field in (
+    let is = c.size.ensures.is_the_size_of_the_field in (
       record { some = omega (arith, a.some, is); few = omega (arith, a.few, is); cells_fit = omega (arith, a.room, ap (λ (n : ℕ). 2 ^ n * n) is); grid_fits = search rules },
       omega (arith, doubled c.args.level a.small, pow_pos (c.args.level + 1)),
     )
@@ -28,9 +28,9 @@ returns g c =
     let f = field_of (g.S.MatchSource.sheet c.args.source.now) in
     let level = c.args.level in
     let must = c.args.must in
-    let is = c.size.ensures.is-the-size-of-the-field in
+    let is = c.size.ensures.is_the_size_of_the_field in
     let before = c.args.memory.now in
-    let after = c.refresh-level.new.memory in
+    let after = c.refresh_level.new.memory in
     let a = admitted f.size (length before) level (g.met.S.MatchSource.lawful c.args.source.now).size_legal c.requires in
     let P : ℕ → ℕ → Type 0 = λ n z. Renewal m.semiring m.means n (of_level n z must) (by_halves m.semiring f (cell_of m.semiring n (map m.means before))) before after in
-    record { renews-those-cells-alone = subst (λ z. P f.size z) (doubled level a.small) (subst (λ n. P n ((2 * 2 ^ level) % 2 ^ 32)) is (c.refresh-level.ensures.renews-the-sets-of-that-size-alone f (sym is) c.level-grid.ensures.weighs-every-win)) }
+    record { renews_those_cells_alone = subst (λ z. P f.size z) (doubled level a.small) (subst (λ n. P n ((2 * 2 ^ level) % 2 ^ 32)) is (c.refresh_level.ensures.renews_the_sets_of_that_size_alone f (sym is) c.level_grid.ensures.weighs_every_win)) }

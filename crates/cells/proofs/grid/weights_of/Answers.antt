@@ -8,6 +8,6 @@ returns-then-a-b g c =
     let lawful = g.met.S.MatchSource.lawful c.args.source.now in
     let weightless = nobody_himself g.V.Algebra.semiring g.met.V.Algebra.lawful sheet lawful in
     record {
-      forth = c.nothing.ensures.means-nothing ∙ weightless c.args.a c.args.b c.if-a-b.true;
-      back = c.nothing-then-a-b.ensures.means-nothing ∙ weightless c.args.b c.args.a (sym c.if-a-b.true);
+      forth = c.nothing.ensures.means_nothing ∙ weightless c.args.a c.args.b c.if-a-b.true;
+      back = c.nothing-then-a-b.ensures.means_nothing ∙ weightless c.args.b c.args.a (sym c.if-a-b.true);
     }

@@ -6,8 +6,8 @@ use Rattle.cells.proofs.halves.is_member.Goals as goal
 
 pub returns-then-entrant-lt32 : goal.returns-then-entrant-lt32
 unfolding has
-returns-then-entrant-lt32 c = record { says-whether-he-is-a-member = refl }
+returns-then-entrant-lt32 c = record { says_whether_he_is_a_member = refl }
 
 pub returns-else-entrant-lt32 : goal.returns-else-entrant-lt32
 returns-else-entrant-lt32 c =
-    record { says-whether-he-is-a-member = le-ltb c.args.entrant 32 c.if-entrant-lt32.false ∙ sym (beyond 32 c.args.set c.args.entrant (omega arith) c.if-entrant-lt32.false) }
+    record { says_whether_he_is_a_member = le-ltb c.args.entrant 32 c.if-entrant-lt32.false ∙ sym (beyond 32 c.args.set c.args.entrant (omega arith) c.if-entrant-lt32.false) }

@@ -6,28 +6,28 @@ use Rattle.figures.proofs.Bits.{part_le, bit_true, member_lt}
 use Rattle.cells.proofs.Parts.{one_part}
 use Rattle.cells.proofs.Steps.{start_at, start_none}
 use Rattle.cells.proofs.halves.others_of.Goals as goal
-use Rattle.cells.proofs.halves.others_of.Goals.{else-is-member-via-then-is-member+else-set-eq0, else-is-member-via-else-is-member}
+use Rattle.cells.proofs.halves.others_of.Goals.{else-is_member-via-then-is_member+else-set-eq0, else-is_member-via-else-is_member}
 
 pub overflow-shl-result : goal.overflow-shl-result
-overflow-shl-result c = member_lt 32 c.args.set c.args.entrant (omega arith) (bit_true c.args.set c.args.entrant (sym c.if-is-member.ensures.says-whether-he-is-a-member))
+overflow-shl-result c = member_lt 32 c.args.set c.args.entrant (omega arith) (bit_true c.args.set c.args.entrant (sym c.if-is_member.ensures.says_whether_he_is_a_member))
 
 pub overflow-sub-result : goal.overflow-sub-result
 overflow-sub-result c =
-    let h = sym c.if-is-member.ensures.says-whether-he-is-a-member in
+    let h = sym c.if-is_member.ensures.says_whether_he_is_a_member in
     let l = member_lt 32 c.args.set c.args.entrant (omega arith) (bit_true c.args.set c.args.entrant h) in
     omega (arith, one_shl c.args.entrant 32 l, part_le (2 ^ c.args.entrant) c.args.set (one_part c.args.set c.args.entrant h))
 
 pub returns-then-set-eq0 : goal.returns-then-set-eq0
 returns-then-set-eq0 c =
-    let h = sym c.if-is-member.ensures.says-whether-he-is-a-member in
+    let h = sym c.if-is_member.ensures.says_whether_he_is_a_member in
     let l = member_lt 32 c.args.set c.args.entrant (omega arith) (bit_true c.args.set c.args.entrant h) in
-    record { is-where-a-walk-begins = start_at c.args.set c.args.entrant _ h c.if-set-eq0.true (ap (λ (x : ℕ). c.args.set - x) (one_shl c.args.entrant 32 l)) }
+    record { is_where_a_walk_begins = start_at c.args.set c.args.entrant _ h c.if-set-eq0.true (ap (λ (x : ℕ). c.args.set - x) (one_shl c.args.entrant 32 l)) }
 
-pub returns-else-is-member : goal.returns-else-is-member
-returns-else-is-member c =
+pub returns-else-is_member : goal.returns-else-is_member
+returns-else-is_member c =
     record {
-      is-where-a-walk-begins = start_none c.args.set c.args.entrant (elim c.else-is-member.branch [
-        | else-is-member-via-then-is-member+else-set-eq0 w ↦ λ _ k. w.if-set-eq0.false k
-        | else-is-member-via-else-is-member w ↦ λ h _. both_ways (has c.args.set c.args.entrant) (sym w.if-is-member.ensures.says-whether-he-is-a-member) h
+      is_where_a_walk_begins = start_none c.args.set c.args.entrant (elim c.else-is_member.branch [
+        | else-is_member-via-then-is_member+else-set-eq0 w ↦ λ _ k. w.if-set-eq0.false k
+        | else-is_member-via-else-is_member w ↦ λ h _. both_ways (has c.args.set c.args.entrant) (sym w.if-is_member.ensures.says_whether_he_is_a_member) h
       ]);
     }

@@ -19,7 +19,7 @@ returns c =
     let w = c.args.entrant in
     let is : n ≤ 16 → s < 2 ^ n → w < n → (s * n % 2 ^ 64 + w) % 2 ^ 64 ≡ s * n + w = λ few h l. stays (s * n) w (2 ^ n * n) (omega (arith, mul-add-lt s n w (2 ^ n) h l)) (few_cells n few) in
     record {
-      is-the-set-times-n-and-the-entrant = wraps (s * n) w;
-      is-the-index-of-that-cell = is;
-      is-within-the-needed-cells = λ few h l. omega (arith, is few h l, mul-add-lt s n w (2 ^ n) h l);
+      is_the_set_times_n_and_the_entrant = wraps (s * n) w;
+      is_the_index_of_that_cell = is;
+      is_within_the_needed_cells = λ few h l. omega (arith, is few h l, mul-add-lt s n w (2 ^ n) h l);
     }

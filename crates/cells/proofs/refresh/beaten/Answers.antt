@@ -10,7 +10,7 @@ pub loop-left-init : goal.loop-left-init
 loop-left-init g c =
     let m = g.V.Algebra in
     let all = members (of_size c.args.n) c.args.rest in
-    ((λ x h. h), none_off m.semiring g.met.V.Algebra.lawful (m.means c.nothing-sum.result) all all _ c.nothing-sum.ensures.means-nothing refl)
+    ((λ x h. h), none_off m.semiring g.met.V.Algebra.lawful (m.means c.nothing-sum.result) all all _ c.nothing-sum.ensures.means_nothing refl)
 
 pub loop-left-smaller : goal.loop-left-smaller
 loop-left-smaller g c = off_less c.loop-left.left c.loop-left-test.true
@@ -21,24 +21,24 @@ loop-left-preserved g c =
     let A = m.semiring in
     let left = c.loop-left.left in
     let loser = c.lowest-loser.result in
-    let low = c.lowest-loser.ensures.is-the-lowest-member in
+    let low = c.lowest-loser.ensures.is_the_lowest_member in
     let l = (in_reach c.loop-left.left c.requires.0 c.requires.1.0 c.loop-left.invariant.0 low).0 in
     let F : ℕ → m.Meaning = λ b. A.times (cell_of A c.args.n (map m.means c.args.cells.now) c.args.rest b) (weight_of A (map m.means c.args.grid.now) c.args.winner b) in
-    let term = c.times.ensures.means-the-product ∙ ap₂ A.times c.cell-of.ensures.means-that-cell c.weight-of.ensures.means-that-weight in (
+    let term = c.times.ensures.means_the_product ∙ ap₂ A.times c.cell_of.ensures.means_that_cell c.weight_of.ensures.means_that_weight in (
       within_off c.args.rest left loser low c.loop-left.invariant.0,
       one_off A g.met.V.Algebra.lawful (m.means c.loop-left.sum) (m.means c.plus-sum.result) loser _ _ F (members_off left loser low c.args.n l)
-          (c.plus-sum.ensures.means-the-sum ∙ ap₂ A.plus refl term)
+          (c.plus-sum.ensures.means_the_sum ∙ ap₂ A.plus refl term)
           ∙ c.loop-left.invariant.1,
     )
 
-pub cell-of-requires : goal.cell-of-requires
-cell-of-requires g c =
-    let l = in_reach c.loop-left.left c.requires.0 c.requires.1.0 c.loop-left.invariant.0 c.lowest-loser.ensures.is-the-lowest-member in
+pub cell_of-requires : goal.cell_of-requires
+cell_of-requires g c =
+    let l = in_reach c.loop-left.left c.requires.0 c.requires.1.0 c.loop-left.invariant.0 c.lowest-loser.ensures.is_the_lowest_member in
     (c.requires.0.few, (c.requires.1.0, (l.0, c.requires.0.cells_fit)))
 
-pub weight-of-requires : goal.weight-of-requires
-weight-of-requires g c =
-    let l = in_reach c.loop-left.left c.requires.0 c.requires.1.0 c.loop-left.invariant.0 c.lowest-loser.ensures.is-the-lowest-member in
+pub weight_of-requires : goal.weight_of-requires
+weight_of-requires g c =
+    let l = in_reach c.loop-left.left c.requires.0 c.requires.1.0 c.loop-left.invariant.0 c.lowest-loser.ensures.is_the_lowest_member in
     let few = c.requires.0.few in
     let w = c.requires.1.1 in
     (omega arith, (l.1, c.requires.0.grid_fits))
@@ -49,5 +49,5 @@ returns g c =
     let m = g.V.Algebra in
     let z : c.loop-left.left ≡ 0 = omega (arith, c.loop-left-test.false) in
     record {
-      is-the-sum-over-the-losers = sym (all_off m.semiring g.met.V.Algebra.lawful (m.means c.loop-left.sum) _ _ (members_none c.args.n c.loop-left.left z)) ∙ c.loop-left.invariant.1;
+      is_the_sum_over_the_losers = sym (all_off m.semiring g.met.V.Algebra.lawful (m.means c.loop-left.sum) _ _ (members_none c.args.n c.loop-left.left z)) ∙ c.loop-left.invariant.1;
     }

@@ -3,22 +3,22 @@ use Rattle.cells.specs.Renewal.{cell_of}
 use Rattle.cells.proofs.Adding.{get_or-means}
 use Rattle.cells.proofs.refresh.cell_of.Goals as goal
 
-pub offset-bounds-cells-index-of : goal.offset-bounds-cells-index-of
-offset-bounds-cells-index-of g c =
-    let u : c.index-of.result < length c.args.cells.now = omega (arith, c.requires.1.1.1, c.index-of.ensures.is-within-the-needed-cells c.requires.0 c.requires.1.0 c.requires.1.1.0) in
+pub offset-bounds-cells-index_of : goal.offset-bounds-cells-index_of
+offset-bounds-cells-index_of g c =
+    let u : c.index_of.result < length c.args.cells.now = omega (arith, c.requires.1.1.1, c.index_of.ensures.is_within_the_needed_cells c.requires.0 c.requires.1.0 c.requires.1.1.0) in
     search rules
 
-pub bounds-cells-index-of : goal.bounds-cells-index-of
-bounds-cells-index-of g c = omega (arith, c.requires.1.1.1, c.index-of.ensures.is-within-the-needed-cells c.requires.0 c.requires.1.0 c.requires.1.1.0)
+pub bounds-cells-index_of : goal.bounds-cells-index_of
+bounds-cells-index_of g c = omega (arith, c.requires.1.1.1, c.index_of.ensures.is_within_the_needed_cells c.requires.0 c.requires.1.0 c.requires.1.1.0)
 
 pub returns : goal.returns
 unfolding cell_of
 returns g c =
     let m = g.V.Algebra in
-    let i = c.index-of.result in
+    let i = c.index_of.result in
     let l = c.requires.1.1.1 in
-    let within = c.index-of.ensures.is-within-the-needed-cells c.requires.0 c.requires.1.0 c.requires.1.1.0 in
+    let within = c.index_of.ensures.is_within_the_needed_cells c.requires.0 c.requires.1.0 c.requires.1.1.0 in
     record {
-      means-that-cell = get_or-means m.means c.args.cells.now i m.semiring.nothing c.index-cells-index-of.result (omega (arith, l, within)) c.index-cells-index-of.is
-          ∙ ap (λ (x : ℕ). get_or (map m.means c.args.cells.now) x m.semiring.nothing) (c.index-of.ensures.is-the-index-of-that-cell c.requires.0 c.requires.1.0 c.requires.1.1.0);
+      means_that_cell = get_or-means m.means c.args.cells.now i m.semiring.nothing c.index-cells-index_of.result (omega (arith, l, within)) c.index-cells-index_of.is
+          ∙ ap (λ (x : ℕ). get_or (map m.means c.args.cells.now) x m.semiring.nothing) (c.index_of.ensures.is_the_index_of_that_cell c.requires.0 c.requires.1.0 c.requires.1.1.0);
     }

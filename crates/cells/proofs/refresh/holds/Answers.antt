@@ -4,4 +4,4 @@ use Rattle.cells.proofs.refresh.holds.Goals as goal
 
 pub returns : goal.returns
 unfolding has
-returns c = record { says-whether-he-is-a-member = refl }
+returns c = record { says_whether_he_is_a_member = refl }

@@ -16,13 +16,13 @@ loop-half-init g c =
     let m = g.V.Algebra in
     let A = m.semiring in
     let n = c.args.n in
-    let own = c.of-halves.ensures.is-of-that-set-and-entrant in (
+    let own = c.of-halves.ensures.is_of_that_set_and_entrant in (
       own.0,
       own.1,
       refl,
       along_none A g.met.V.Algebra.lawful m.means (weight_of A (map m.means c.args.grid.now)) n (cell_of A n (map m.means c.args.memory.now)) c.args.set
           c.lowest-first.result c.nothing-sums.result (ahead (of_size n) c.args.set c.lowest-first.result c.of-halves.result.place)
-          c.lowest-first.ensures.is-the-lowest-member.0 c.nothing-sums.ensures.means-nothing (c.of-halves.ensures.all-halves-are-ahead (of_size n)),
+          c.lowest-first.ensures.is_the_lowest_member.0 c.nothing-sums.ensures.means_nothing (c.of-halves.ensures.all_halves_are_ahead (of_size n)),
     )
 
 pub loop-half-preserved : goal.loop-half-preserved
@@ -34,8 +34,8 @@ loop-half-preserved g c =
     let half = c.in-Some.half in
     let h = c.loop-half.halves in
     let i = c.loop-half.invariant in
-    let own = q.stays-with-its-set-and-entrant in
-    let told = q.is-a-half-that-holds-the-entrant-with-its-rest in
+    let own = q.stays_with_its_set_and_entrant in
+    let told = q.is_a_half_that_holds_the_entrant_with_its_rest in
     let z : c.loop-left.left ≡ 0 = omega (arith, c.loop-left-test.false) in (
       own.0 ∙ i.0,
       own.1 ∙ i.1,
@@ -43,7 +43,7 @@ loop-half-preserved g c =
       along_more A g.met.V.Algebra.lawful m.means (weight_of A (map m.means c.args.grid.now)) n (cell_of A n (map m.means c.args.memory.now)) c.args.set
           half.set half.rest c.loop-left.left c.loop-half.sums c.loop-left.sums _ _
           (told.1 ∙ ap (λ (x : ℕ). x - half.set) i.0) z
-          (next_at (of_size n) h.set c.args.set h.entrant c.lowest-first.result h.place _ half.set i.0 i.1 (q.is-the-first-ahead-or-none-where-none-is (of_size n)))
+          (next_at (of_size n) h.set c.args.set h.entrant c.lowest-first.result h.place _ half.set i.0 i.1 (q.is_the_first_ahead_or_none_where_none_is (of_size n)))
           i.3 c.loop-left.invariant.2,
     )
 
@@ -63,7 +63,7 @@ loop-left-preserved g c =
     let A = m.semiring in
     let left = c.loop-left.left in
     let w = c.lowest-winner.result in
-    let low = c.lowest-winner.ensures.is-the-lowest-member in
+    let low = c.lowest-winner.ensures.is_the_lowest_member in
     let sums = c.loop-left.sums in
     let few = (in_reach c.loop-left.left c.requires.0 c.requires.1.1 c.loop-left.invariant.0 low).1 in
     let l : w < length sums = omega (arith, c.loop-left.invariant.1) in
@@ -71,35 +71,35 @@ loop-left-preserved g c =
       within_off c.args.set left w low c.loop-left.invariant.0,
       length-set sums w c.plus-sum.result ∙ c.loop-left.invariant.1,
       piled_more A m.means _ c.args.set c.loop-half.sums left w c.plus-sum.result sums (set sums w c.plus-sum.result) low l c.loop-left.invariant.2
-          (c.plus-sum.ensures.means-the-sum ∙ ap₂ A.plus (sym read) c.win.ensures.is-what-his-side-gives) refl,
+          (c.plus-sum.ensures.means_the_sum ∙ ap₂ A.plus (sym read) c.win.ensures.is_what_his_side_gives) refl,
     )
 
 pub win-requires : goal.win-requires
 win-requires g c =
-    let told = c.in-Some.ensures.is-a-half-that-holds-the-entrant-with-its-rest in
+    let told = c.in-Some.ensures.is_a_half_that_holds_the_entrant_with_its_rest in
     let s = c.loop-half.invariant.0 in
     let l = at_most c.loop-half.halves.set c.args.set c.loop-half.halves.entrant c.in-Some.half.set s told.0 in
     let r = told.1 in
     let h = c.requires.1.1 in
-    (c.requires.0, (omega arith, (omega arith, (in_reach c.loop-left.left c.requires.0 c.requires.1.1 c.loop-left.invariant.0 c.lowest-winner.ensures.is-the-lowest-member).0)))
+    (c.requires.0, (omega arith, (omega arith, (in_reach c.loop-left.left c.requires.0 c.requires.1.1 c.loop-left.invariant.0 c.lowest-winner.ensures.is_the_lowest_member).0)))
 
 pub offset-bounds-sums-winner : goal.offset-bounds-sums-winner
-offset-bounds-sums-winner g c = let l = (in_reach c.loop-left.left c.requires.0 c.requires.1.1 c.loop-left.invariant.0 c.lowest-winner.ensures.is-the-lowest-member).2 in search rules
+offset-bounds-sums-winner g c = let l = (in_reach c.loop-left.left c.requires.0 c.requires.1.1 c.loop-left.invariant.0 c.lowest-winner.ensures.is_the_lowest_member).2 in search rules
 
 pub listed : goal.listed
-listed g c = let l = (in_reach c.loop-left.left c.requires.0 c.requires.1.1 c.loop-left.invariant.0 c.lowest-winner.ensures.is-the-lowest-member).1 in omega (arith, c.loop-left.invariant.1)
+listed g c = let l = (in_reach c.loop-left.left c.requires.0 c.requires.1.1 c.loop-left.invariant.0 c.lowest-winner.ensures.is_the_lowest_member).1 in omega (arith, c.loop-left.invariant.1)
 
 pub bounds-sums-winner : goal.bounds-sums-winner
-bounds-sums-winner g c = (in_reach c.loop-left.left c.requires.0 c.requires.1.1 c.loop-left.invariant.0 c.lowest-winner.ensures.is-the-lowest-member).1
+bounds-sums-winner g c = (in_reach c.loop-left.left c.requires.0 c.requires.1.1 c.loop-left.invariant.0 c.lowest-winner.ensures.is_the_lowest_member).1
 
 pub offset-bounds-sums-winner-in-loop-left : goal.offset-bounds-sums-winner-in-loop-left
-offset-bounds-sums-winner-in-loop-left g c = let l = (in_reach c.loop-left.left c.requires.0 c.requires.1.1 c.loop-left.invariant.0 c.lowest-winner.ensures.is-the-lowest-member).2 in search rules
+offset-bounds-sums-winner-in-loop-left g c = let l = (in_reach c.loop-left.left c.requires.0 c.requires.1.1 c.loop-left.invariant.0 c.lowest-winner.ensures.is_the_lowest_member).2 in search rules
 
 pub listed-in-loop-left : goal.listed-in-loop-left
-listed-in-loop-left g c = let l = (in_reach c.loop-left.left c.requires.0 c.requires.1.1 c.loop-left.invariant.0 c.lowest-winner.ensures.is-the-lowest-member).1 in omega (arith, c.loop-left.invariant.1)
+listed-in-loop-left g c = let l = (in_reach c.loop-left.left c.requires.0 c.requires.1.1 c.loop-left.invariant.0 c.lowest-winner.ensures.is_the_lowest_member).1 in omega (arith, c.loop-left.invariant.1)
 
 pub bounds-sums-winner-in-loop-left : goal.bounds-sums-winner-in-loop-left
-bounds-sums-winner-in-loop-left g c = (in_reach c.loop-left.left c.requires.0 c.requires.1.1 c.loop-left.invariant.0 c.lowest-winner.ensures.is-the-lowest-member).1
+bounds-sums-winner-in-loop-left g c = (in_reach c.loop-left.left c.requires.0 c.requires.1.1 c.loop-left.invariant.0 c.lowest-winner.ensures.is_the_lowest_member).1
 
 -- ---- every cell
 
@@ -112,19 +112,19 @@ pub loop-unwritten-smaller : goal.loop-unwritten-smaller
 loop-unwritten-smaller g c = off_less c.loop-unwritten.unwritten c.loop-unwritten-test.true
 
 pub offset-bounds-sums-entrant : goal.offset-bounds-sums-entrant
-offset-bounds-sums-entrant g c = let l = (in_reach c.loop-unwritten.unwritten c.requires.0 c.requires.1.1 c.loop-unwritten.invariant.0 c.lowest-entrant.ensures.is-the-lowest-member).2 in search rules
+offset-bounds-sums-entrant g c = let l = (in_reach c.loop-unwritten.unwritten c.requires.0 c.requires.1.1 c.loop-unwritten.invariant.0 c.lowest-entrant.ensures.is_the_lowest_member).2 in search rules
 
 pub listed-in-loop-unwritten : goal.listed-in-loop-unwritten
-listed-in-loop-unwritten g c = let l = (in_reach c.loop-unwritten.unwritten c.requires.0 c.requires.1.1 c.loop-unwritten.invariant.0 c.lowest-entrant.ensures.is-the-lowest-member).1 in omega (arith, c.loop-half.invariant.2)
+listed-in-loop-unwritten g c = let l = (in_reach c.loop-unwritten.unwritten c.requires.0 c.requires.1.1 c.loop-unwritten.invariant.0 c.lowest-entrant.ensures.is_the_lowest_member).1 in omega (arith, c.loop-half.invariant.2)
 
 pub bounds-sums-entrant : goal.bounds-sums-entrant
-bounds-sums-entrant g c = (in_reach c.loop-unwritten.unwritten c.requires.0 c.requires.1.1 c.loop-unwritten.invariant.0 c.lowest-entrant.ensures.is-the-lowest-member).1
+bounds-sums-entrant g c = (in_reach c.loop-unwritten.unwritten c.requires.0 c.requires.1.1 c.loop-unwritten.invariant.0 c.lowest-entrant.ensures.is_the_lowest_member).1
 
-pub offset-bounds-memory-index-of : goal.offset-bounds-memory-index-of
-offset-bounds-memory-index-of g c = let u : c.index-of.result < length c.loop-unwritten.memory = omega (arith, c.index-of.ensures.is-within-the-needed-cells c.requires.0.few c.requires.1.1 (in_reach c.loop-unwritten.unwritten c.requires.0 c.requires.1.1 c.loop-unwritten.invariant.0 c.lowest-entrant.ensures.is-the-lowest-member).0, c.requires.0.cells_fit, c.loop-unwritten.auto.memory) in search rules
+pub offset-bounds-memory-index_of : goal.offset-bounds-memory-index_of
+offset-bounds-memory-index_of g c = let u : c.index_of.result < length c.loop-unwritten.memory = omega (arith, c.index_of.ensures.is_within_the_needed_cells c.requires.0.few c.requires.1.1 (in_reach c.loop-unwritten.unwritten c.requires.0 c.requires.1.1 c.loop-unwritten.invariant.0 c.lowest-entrant.ensures.is_the_lowest_member).0, c.requires.0.cells_fit, c.loop-unwritten.auto.memory) in search rules
 
-pub bounds-memory-index-of : goal.bounds-memory-index-of
-bounds-memory-index-of g c = omega (arith, c.index-of.ensures.is-within-the-needed-cells c.requires.0.few c.requires.1.1 (in_reach c.loop-unwritten.unwritten c.requires.0 c.requires.1.1 c.loop-unwritten.invariant.0 c.lowest-entrant.ensures.is-the-lowest-member).0, c.requires.0.cells_fit, c.loop-unwritten.auto.memory)
+pub bounds-memory-index_of : goal.bounds-memory-index_of
+bounds-memory-index_of g c = omega (arith, c.index_of.ensures.is_within_the_needed_cells c.requires.0.few c.requires.1.1 (in_reach c.loop-unwritten.unwritten c.requires.0 c.requires.1.1 c.loop-unwritten.invariant.0 c.lowest-entrant.ensures.is_the_lowest_member).0, c.requires.0.cells_fit, c.loop-unwritten.auto.memory)
 
 pub loop-unwritten-preserved : goal.loop-unwritten-preserved
 loop-unwritten-preserved g c =
@@ -134,7 +134,7 @@ loop-unwritten-preserved g c =
     let s = c.args.set in
     let left = c.loop-unwritten.unwritten in
     let w = c.lowest-entrant.result in
-    let low = c.lowest-entrant.ensures.is-the-lowest-member in
+    let low = c.lowest-entrant.ensures.is_the_lowest_member in
     let within = c.loop-unwritten.invariant.0 in
     let grid = c.args.grid.now in
     let xs = c.args.memory.now in
@@ -144,12 +144,12 @@ loop-unwritten-preserved g c =
     let v = get_or sums w c.index-sums-entrant.result in
     let h = c.loop-half.halves in
     let i = c.loop-half.invariant in
-    let ends = none_at (of_size n) h.set s h.entrant c.lowest-first.result h.place i.0 i.1 (c.in-default.ensures.is-the-first-ahead-or-none-where-none-is (of_size n)).0 in
+    let ends = none_at (of_size n) h.set s h.entrant c.lowest-first.result h.place i.0 i.1 (c.in-default.ensures.is_the_first_ahead_or_none_where_none_is (of_size n)).0 in
     let l = in_reach left c.requires.0 c.requires.1.1 within low in
     let few = l.1 in
     let k : w < length sums = omega (arith, i.2) in
-    let at-index = c.index-of.ensures.is-the-index-of-that-cell c.requires.0.few c.requires.1.1 l.0 in
-    let u : s * n + w < length ys = omega (arith, at-index, c.index-of.ensures.is-within-the-needed-cells c.requires.0.few c.requires.1.1 l.0, c.requires.0.cells_fit, c.loop-unwritten.auto.memory) in (
+    let at-index = c.index_of.ensures.is_the_index_of_that_cell c.requires.0.few c.requires.1.1 l.0 in
+    let u : s * n + w < length ys = omega (arith, at-index, c.index_of.ensures.is_within_the_needed_cells c.requires.0.few c.requires.1.1 l.0, c.requires.0.cells_fit, c.loop-unwritten.auto.memory) in (
       within_off s left w low within,
       same_after A m.means n some grid (so_far s (bit_and left (left - 1))) (sum_of A m.means n grid xs) xs (set ys (s * n + w) v) _ (ap (λ (x : ℕ). set ys x v) at-index)
           (put_cell A m.means n some grid s left w v xs ys l.0 u low (within w low.0) c.loop-unwritten.invariant.1
@@ -162,5 +162,5 @@ returns g c =
     let m = g.V.Algebra in
     let z : c.loop-unwritten.unwritten ≡ 0 = omega (arith, c.loop-unwritten-test.false) in
     record {
-      each-member-has-his-sum-and-no-other-cell-changes = all_cells m.semiring m.means c.args.n c.requires.0.some c.args.grid.now c.args.set c.loop-unwritten.unwritten c.args.memory.now c.loop-unwritten.memory z c.loop-unwritten.invariant.1;
+      each_member_has_his_sum_and_no_other_cell_changes = all_cells m.semiring m.means c.args.n c.requires.0.some c.args.grid.now c.args.set c.loop-unwritten.unwritten c.args.memory.now c.loop-unwritten.memory z c.loop-unwritten.invariant.1;
     }

@@ -10,4 +10,4 @@ returns g c =
     let w = c.requires.0 in
     let b = c.requires.1.0 in
     let l = c.requires.1.1 in
-    record { means-that-weight = get_or-means m.means c.args.grid.now (c.args.winner * 16 + c.args.loser) m.semiring.nothing c.index-grid-winner.result (omega arith) c.index-grid-winner.is }
+    record { means_that_weight = get_or-means m.means c.args.grid.now (c.args.winner * 16 + c.args.loser) m.semiring.nothing c.index-grid-winner.result (omega arith) c.index-grid-winner.is }

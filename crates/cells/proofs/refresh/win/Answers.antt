@@ -9,8 +9,8 @@ returns-then-holds g c =
     let A = m.semiring in
     let n = c.args.n in
     record {
-      is-what-his-side-gives = c.times.ensures.means-the-product ∙ ap₂ A.times c.cell-of.ensures.means-that-cell c.beaten.ensures.is-the-sum-over-the-losers
-          ∙ won_in A g.met.V.Algebra.lawful (weight_of A (map m.means c.args.grid.now)) n (cell_of A n (map m.means c.args.cells.now)) c.args.half c.args.rest c.args.winner c.if-holds.ensures.says-whether-he-is-a-member;
+      is_what_his_side_gives = c.times.ensures.means_the_product ∙ ap₂ A.times c.cell_of.ensures.means_that_cell c.beaten.ensures.is_the_sum_over_the_losers
+          ∙ won_in A g.met.V.Algebra.lawful (weight_of A (map m.means c.args.grid.now)) n (cell_of A n (map m.means c.args.cells.now)) c.args.half c.args.rest c.args.winner c.if-holds.ensures.says_whether_he_is_a_member;
     }
 
 pub returns-else-holds : goal.returns-else-holds
@@ -19,6 +19,6 @@ returns-else-holds g c =
     let A = m.semiring in
     let n = c.args.n in
     record {
-      is-what-his-side-gives = c.times-else-holds.ensures.means-the-product ∙ ap₂ A.times c.cell-of-else-holds.ensures.means-that-cell c.beaten-else-holds.ensures.is-the-sum-over-the-losers
-          ∙ won_out A g.met.V.Algebra.lawful (weight_of A (map m.means c.args.grid.now)) n (cell_of A n (map m.means c.args.cells.now)) c.args.half c.args.rest c.args.winner c.if-holds.ensures.says-whether-he-is-a-member;
+      is_what_his_side_gives = c.times-else-holds.ensures.means_the_product ∙ ap₂ A.times c.cell_of-else-holds.ensures.means_that_cell c.beaten-else-holds.ensures.is_the_sum_over_the_losers
+          ∙ won_out A g.met.V.Algebra.lawful (weight_of A (map m.means c.args.grid.now)) n (cell_of A n (map m.means c.args.cells.now)) c.args.half c.args.rest c.args.winner c.if-holds.ensures.says_whether_he_is_a_member;
     }

@@ -19,22 +19,22 @@ pub returns-in-2 : goal.returns-in-2
 unfolding ones bracket_count choose
 returns-in-2 c =
     let t = owed c.args.size 2 1 _ c.in-2.is refl refl refl refl in
-    record { is-the-length-of-every-list-of-all-brackets = t.0; is-one-or-three-or-315-or-638512875 = t.1 }
+    record { is_the_length_of_every_list_of_all_brackets = t.0; is_one_or_three_or_315_or_638512875 = t.1 }
 
 pub returns-in-4 : goal.returns-in-4
 unfolding ones bracket_count choose
 returns-in-4 c =
     let t = owed c.args.size 4 2 _ c.in-4.is refl refl refl refl in
-    record { is-the-length-of-every-list-of-all-brackets = t.0; is-one-or-three-or-315-or-638512875 = t.1 }
+    record { is_the_length_of_every_list_of_all_brackets = t.0; is_one_or_three_or_315_or_638512875 = t.1 }
 
 pub returns-in-8 : goal.returns-in-8
 unfolding ones bracket_count choose
 returns-in-8 c =
     let t = owed c.args.size 8 3 _ c.in-8.is refl refl refl refl in
-    record { is-the-length-of-every-list-of-all-brackets = t.0; is-one-or-three-or-315-or-638512875 = t.1 }
+    record { is_the_length_of_every_list_of_all_brackets = t.0; is_one_or_three_or_315_or_638512875 = t.1 }
 
 pub returns-in-16 : goal.returns-in-16
 unfolding ones bracket_count choose
 returns-in-16 c =
     let t = owed c.args.size 16 4 _ c.in-16.is refl refl refl refl in
-    record { is-the-length-of-every-list-of-all-brackets = t.0; is-one-or-three-or-315-or-638512875 = t.1 }
+    record { is_the_length_of_every_list_of_all_brackets = t.0; is_one_or_three_or_315_or_638512875 = t.1 }

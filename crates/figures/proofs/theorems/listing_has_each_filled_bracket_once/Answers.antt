@@ -5,7 +5,7 @@ use Rattle.figures.proofs.theorems.listing_has_each_filled_bracket_once.Goals as
 pub returns : goal.returns
 returns c =
     record {
-      listed-each-once = all_listed;
-      filled-where-the-bracket-is = λ s t. (forgotten t s, remembered t s);
-      on-powers-of-two-only = on_powers;
+      listed_each_once = all_listed;
+      filled_where_the_bracket_is = λ s t. (forgotten t s, remembered t s);
+      on_powers_of_two_only = on_powers;
     }

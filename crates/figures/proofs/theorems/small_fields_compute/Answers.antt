@@ -2,4 +2,4 @@ use Rattle.figures.proofs.Small.{small_fields}
 use Rattle.figures.proofs.theorems.small_fields_compute.Goals as goal
 
 pub returns : goal.returns
-returns c = record { draws-of-four = small_fields }
+returns c = record { draws_of_four = small_fields }

@@ -5,4 +5,4 @@ use Rattle.records.proofs.theorems.a_small_record_computes.Goals as goal
 
 pub returns : goal.returns
 unfolding pick champion record_words
-returns c = record { words-of-four = refl }
+returns c = record { words_of_four = refl }

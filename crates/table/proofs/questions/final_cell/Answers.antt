@@ -18,10 +18,10 @@ returns g c =
     let shl = one_shl n 32 (omega arith) in
     let s : (1 * 2 ^ n) % 2 ^ 32 - 1 < 2 ^ n = omega (arith, shl, pow_pos n) in
     let all : (1 * 2 ^ n) % 2 ^ 32 - 1 ≡ everybody n = ap (λ (x : ℕ). x - 1) shl in
-    let u : c.index-of.result < length xs = omega (arith, c.index-of.ensures.is-within-the-needed-cells few s l, c.requires.1.1) in
+    let u : c.index_of.result < length xs = omega (arith, c.index_of.ensures.is_within_the_needed_cells few s l, c.requires.1.1) in
     record {
-      means-what-that-cell-does =
-          get_or-means m.means xs c.index-of.result m.semiring.nothing c.index-memory-index-of.result u c.index-memory-index-of.is
-          ∙ ap (λ (i : ℕ). get_or (map m.means xs) i m.semiring.nothing) (c.index-of.ensures.is-the-index-of-that-cell few s l ∙ ap (λ (x : ℕ). x * n + w) all);
-      changes-nothing = refl;
+      means_what_that_cell_does =
+          get_or-means m.means xs c.index_of.result m.semiring.nothing c.index-memory-index_of.result u c.index-memory-index_of.is
+          ∙ ap (λ (i : ℕ). get_or (map m.means xs) i m.semiring.nothing) (c.index_of.ensures.is_the_index_of_that_cell few s l ∙ ap (λ (x : ℕ). x * n + w) all);
+      changes_nothing = refl;
     }

@@ -14,6 +14,6 @@ returns c =
     same_row (decimal c.args.a) (decimal c.args.b) (fact_text c.args.facts.0) (fact_text c.args.facts.1)
     (c.deref.ensures ∙ c.in-ok-first.ensures.ok)
     (c.deref-2.ensures ∙ c.in-ok-second.ensures.ok)
-    (c.deref-3.ensures ∙ c.in-ok-first-wins.ensures.reads-free-or-the-price-or-never)
-    (c.deref-4.ensures ∙ c.in-ok-second-wins.ensures.reads-free-or-the-price-or-never) in
-    record { tells-the-entrants-and-then-their-facts = made_same string_bytes c.table-row.result same c.table-row.ensures }
+    (c.deref-3.ensures ∙ c.in-ok-first_wins.ensures.reads_free_or_the_price_or_never)
+    (c.deref-4.ensures ∙ c.in-ok-second_wins.ensures.reads_free_or_the_price_or_never) in
+    record { tells_the_entrants_and_then_their_facts = made_same string_bytes c.table_row.result same c.table_row.ensures }

@@ -3,4 +3,4 @@ use Rattle.algebra.specs.Costs.{same_cost}
 use Rattle.algebra.proofs.bribe.BribeAlgebra.nothing.Goals as goal
 
 pub returns : goal.returns
-returns c = record { means-nothing = same_cost _ _ (omega arith) }
+returns c = record { means_nothing = same_cost _ _ (omega arith) }

@@ -8,8 +8,8 @@ returns c =
     let a = c.args.self.number in
     let b = c.args.other.number in
     record {
-      yes-the-sum-means-the-first = λ e. sym (held_plus a b a (omega (arith, leb-true)));
-      no-the-sum-means-the-second = λ e. sym (held_plus a b b (omega (arith, leb-false)));
-      no-the-sum-does-not-mean-the-first = λ e same.
+      yes_the_sum_means_the_first = λ e. sym (held_plus a b a (omega (arith, leb-true)));
+      no_the_sum_means_the_second = λ e. sym (held_plus a b b (omega (arith, leb-false)));
+      no_the_sum_does_not_mean_the_first = λ e same.
           let h : a ≤ b = plus_first a b c.args.self.within same in omega (arith, leb-false);
     }

@@ -3,4 +3,4 @@ use Rattle.algebra.specs.Counts.{same_count}
 use Rattle.algebra.proofs.draws.Draws.new.Goals as goal
 
 pub returns : goal.returns
-returns c = record { is-the-count-cut-at-the-top = same_count _ _ (omega arith) }
+returns c = record { is_the_count_cut_at_the_top = same_count _ _ (omega arith) }

@@ -3,4 +3,4 @@ use Rattle.algebra.specs.Counts.{same_count}
 use Rattle.algebra.proofs.draws.DrawsAlgebra.plus.Goals as goal
 
 pub returns : goal.returns
-returns c = record { means-the-sum = same_count _ _ (omega arith) }
+returns c = record { means_the_sum = same_count _ _ (omega arith) }

@@ -5,5 +5,5 @@ use Rattle.algebra.proofs.draws.DrawsAlgebra.times.Goals as goal
 
 pub returns : goal.returns
 returns c = record {
-  means-the-product = same_count _ _ (omega (arith, cut_factors 999999999 c.args.self.count c.args.other.count));
+  means_the_product = same_count _ _ (omega (arith, cut_factors 999999999 c.args.self.count c.args.other.count));
 }

@@ -7,19 +7,19 @@ pub returns-then-rest-eq0 : goal.returns-then-rest-eq0
 unfolding ahead
 returns-then-rest-eq0 c =
     let w = c.args.self.now in
-    let none = c.due-rest.ensures.is-what-the-next-half-leaves.0 ∙ from_end w.set w.entrant c.due-rest.result c.if-rest-eq0.true in
+    let none = c.due-rest.ensures.is_what_the_next_half_leaves.0 ∙ from_end w.set w.entrant c.due-rest.result c.if-rest-eq0.true in
     record {
-      is-the-first-ahead-or-none-where-none-is = λ f. (w.left f ∙ none, w.left f ∙ none);
-      place-is-its-index-among-the-halves = refl;
-      is-a-half-that-holds-the-entrant-with-its-rest = tt;
-      stays-with-its-set-and-entrant = (refl, refl);
+      is_the_first_ahead_or_none_where_none_is = λ f. (w.left f ∙ none, w.left f ∙ none);
+      place_is_its_index_among_the_halves = refl;
+      is_a_half_that_holds_the_entrant_with_its_rest = tt;
+      stays_with_its_set_and_entrant = (refl, refl);
     }
 
 pub overflow-add-self : goal.overflow-add-self
 overflow-add-self c =
     let w = c.args.self.now in
     let l : 0 < c.due-rest.result = omega arith in
-    let g = due_given w.set w.entrant w.others w.wanted w.rest c.due-rest.result c.due-rest.ensures.is-what-the-next-half-leaves l in
+    let g = due_given w.set w.entrant w.others w.wanted w.rest c.due-rest.result c.due-rest.ensures.is_what_the_next_half_leaves l in
     omega (arith, place_within w.set w.entrant w.rest w.place _ _ w.left g)
 
 pub invariant-of-self : goal.invariant-of-self
@@ -27,8 +27,8 @@ invariant-of-self c =
     let w = c.args.self.now in
     let r = c.due-rest.result in
     let l : 0 < r = omega arith in
-    let g = due_given w.set w.entrant w.others w.wanted w.rest r c.due-rest.ensures.is-what-the-next-half-leaves l in (
-      (λ _. trying_next w.set w.entrant w.others w.wanted r (c.due-rest.ensures.is-what-the-next-half-leaves.1 l).0),
+    let g = due_given w.set w.entrant w.others w.wanted w.rest r c.due-rest.ensures.is_what_the_next_half_leaves l in (
+      (λ _. trying_next w.set w.entrant w.others w.wanted r (c.due-rest.ensures.is_what_the_next_half_leaves.1 l).0),
       (ahead_next w.set w.entrant w.rest w.place _ _ w.left g, tt),
     )
 
@@ -40,12 +40,12 @@ returns c =
     let e = w.entrant in
     let r = c.due-rest.result in
     let l : 0 < r = omega arith in
-    let d = c.due-rest.ensures.is-what-the-next-half-leaves.1 l in
-    let g = due_given s e w.others w.wanted w.rest r c.due-rest.ensures.is-what-the-next-half-leaves l in
+    let d = c.due-rest.ensures.is_what_the_next_half_leaves.1 l in
+    let g = due_given s e w.others w.wanted w.rest r c.due-rest.ensures.is_what_the_next_half_leaves l in
     let in-set = rest_within s e w.others w.wanted r d.0 in
     record {
-      is-the-first-ahead-or-none-where-none-is = λ f. w.left f ∙ g ∙ ap (λ xs. (s - r) ∷ xs) (sym (ahead_next s e w.rest w.place _ _ w.left g f));
-      place-is-its-index-among-the-halves = (refl, refl, index_is s e w.rest w.place _ _ w.left g);
-      is-a-half-that-holds-the-entrant-with-its-rest = (fits s e w.others w.wanted r d.0 d.1, omega arith);
-      stays-with-its-set-and-entrant = (refl, refl);
+      is_the_first_ahead_or_none_where_none_is = λ f. w.left f ∙ g ∙ ap (λ xs. (s - r) ∷ xs) (sym (ahead_next s e w.rest w.place _ _ w.left g f));
+      place_is_its_index_among_the_halves = (refl, refl, index_is s e w.rest w.place _ _ w.left g);
+      is_a_half_that_holds_the_entrant_with_its_rest = (fits s e w.others w.wanted r d.0 d.1, omega arith);
+      stays_with_its_set_and_entrant = (refl, refl);
     }

@@ -9,10 +9,10 @@ returns g c =
     let m = g.V.Algebra in
     let cells = map m.means c.args.cells.now.memory.now in
     record {
-      means-what-his-cell-does-or-is-the-first-refusal = search rules;
-      on-a-table-in-order-means-his-figure = λ f e p.
-          let is : m.means c.final-cell.result ≡ figure m.semiring f (everybody f.size) c.args.entrant =
-          c.final-cell.ensures.means-what-that-cell-does ∙ final_figure m.semiring f c.args.self.now.size cells e p c.args.entrant c.if-entrant-self.false in
+      means_what_his_cell_does_or_is_the_first_refusal = search rules;
+      on_a_table_in_order_means_his_figure = λ f e p.
+          let is : m.means c.final_cell.result ≡ figure m.semiring f (everybody f.size) c.args.entrant =
+          c.final_cell.ensures.means_what_that_cell_does ∙ final_figure m.semiring f c.args.self.now.size cells e p c.args.entrant c.if-entrant-self.false in
           search rules;
-      changes-nothing = search rules;
+      changes_nothing = search rules;
     }

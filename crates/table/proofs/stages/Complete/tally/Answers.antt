@@ -9,10 +9,10 @@ returns g c =
     let m = g.V.Algebra in
     let cells = map m.means c.args.cells.now.memory.now in
     record {
-      means-the-sum-of-all-cells-or-is-the-refusal = search rules;
-      on-a-table-in-order-means-the-sum-of-all-figures = λ f e p.
-          let is : m.means c.sum-of-all.result ≡ tally_of m.semiring f.size (figure m.semiring f) =
-          c.sum-of-all.ensures.means-the-sum-of-their-cells ∙ final_tally m.semiring f c.args.self.now.size cells e p in
+      means_the_sum_of_all_cells_or_is_the_refusal = search rules;
+      on_a_table_in_order_means_the_sum_of_all_figures = λ f e p.
+          let is : m.means c.sum_of_all.result ≡ tally_of m.semiring f.size (figure m.semiring f) =
+          c.sum_of_all.ensures.means_the_sum_of_their_cells ∙ final_tally m.semiring f c.args.self.now.size cells e p in
           search rules;
-      changes-nothing = search rules;
+      changes_nothing = search rules;
     }

@@ -10,9 +10,9 @@ returns g c =
     let n = c.args.self.size in
     let before = c.args.cells.now.memory.now in
     record {
-      moves-to-level-nought-or-hands-the-stage-back = search rules;
-      seats-the-single-entrants-or-changes-nothing = search rules;
-      cells-that-were-nothing-have-their-first-level = λ f e _ blank.
-          started m.semiring g.met.V.Algebra.lawful m.means f n before c.seat-singles.new.memory e (legal_some n c.args.self.legal).0
-          (fits n (length before) c.if-not-has-room.ensures.says-whether-the-cells-of-n-entrants-fit) blank c.seat-singles.ensures.seats-those-alone;
+      moves_to_level_nought_or_hands_the_stage_back = search rules;
+      seats_the_single_entrants_or_changes_nothing = search rules;
+      cells_that_were_nothing_have_their_first_level = λ f e _ blank.
+          started m.semiring g.met.V.Algebra.lawful m.means f n before c.seat_singles.new.memory e (legal_some n c.args.self.legal).0
+          (fits n (length before) c.if-not-has_room.ensures.says_whether_the_cells_of_n_entrants_fit) blank c.seat_singles.ensures.seats_those_alone;
     }

@@ -8,10 +8,10 @@ use Rattle.table.proofs.winners.Complete+Possibility.winners.Goals as goal
 pub returns-in-default : goal.returns-in-default
 returns-in-default c =
     record {
-      are-those-whose-cells-mean-yes-or-the-first-refusal = search rules;
-      on-a-table-in-order-are-those-who-can-win = λ f e p.
-          let is : c.collect-winners.result ≡ winners_of f.size (figure possibilities f) =
-          c.collect-winners.ensures.are-those-whose-cells-mean-yes ∙ final_winners f c.args.self.now.size (map (λ q. q.possible) c.args.cells.now.memory.now) e p in
+      are_those_whose_cells_mean_yes_or_the_first_refusal = search rules;
+      on_a_table_in_order_are_those_who_can_win = λ f e p.
+          let is : c.collect_winners.result ≡ winners_of f.size (figure possibilities f) =
+          c.collect_winners.ensures.are_those_whose_cells_mean_yes ∙ final_winners f c.args.self.now.size (map (λ q. q.possible) c.args.cells.now.memory.now) e p in
           search rules;
-      changes-nothing = search rules;
+      changes_nothing = search rules;
     }
