@@ -75,7 +75,7 @@ pub fn passages_lead_figures_to_figures<V: Algebra, W: Algebra>() -> u8
 }
 
 pub fn what_passes_from_a_figure_means_a_figure<P: Passage>() -> u8
-    ensures figures_pass { FiguresPass From-as-Algebra.means From-as-Algebra.semiring To-as-Algebra.means To-as-Algebra.semiring P.Passage.passes }
+    ensures figures_pass { FiguresPass P.From.Algebra.means P.From.Algebra.semiring P.To.Algebra.means P.To.Algebra.semiring P.Passage.passes }
 {
     0
 }
