@@ -1,6 +1,6 @@
 -- Each of the three sources means a lawful sheet, and carries the pairings that it tells. Assumes nothing.
-use Rattle.std.specs.Prelude.{◌≡◌, ℕ, Bool, true, false, cond, not, ◌&&◌, ◌||◌, List, map, length, Some, None, Option, ◌==◌, nat_lt, refl}
-use Rattle.std.proofs.Common.{ap, sym, ◌∙◌, arith}
+use Rattle.std.specs.Prelude.{◌≡◌, ℕ, Bool, true, false, cond, not, ◌&&◌, ◌||◌, List, length, Some, None, Option, ◌==◌, nat_lt, refl}
+use Rattle.std.proofs.Common.{arith}
 use Rattle.std.proofs.lemmas.Bool.{ltb-true, ltb-false, eqb-false, eq-eqb, ne_eqb, and_from, not_from_false}
 use Rattle.facts.specs.Facts.{free, one_free}
 use Rattle.facts.specs.Fields.{legal, opponents}

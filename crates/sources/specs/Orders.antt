@@ -1,5 +1,5 @@
 -- The strength order: the lower number is the stronger.
-use Rattle.std.specs.Prelude.{ℕ, Bool, true, false, cond, not, ◌&&◌, List, map, Some, None, Option, ◌==◌}
+use Rattle.std.specs.Prelude.{ℕ, Bool, true, false, not, ◌&&◌, List, map, Some, None, Option, ◌==◌}
 use Rattle.facts.specs.Facts.{free}
 use Rattle.facts.specs.Sheets.{Sheet}
 use Rattle.sources.specs.Held.{turned, held_sheet, uniform_sheet}

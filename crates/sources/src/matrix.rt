@@ -2,7 +2,7 @@
 ghost use Rattle.std.specs.Prelude.{◌≡◌, true, length};
 ghost use Rattle.facts.specs.Fields.{legal};
 ghost use Rattle.sources.specs.Answers.{Opened};
-ghost use Rattle.sources.specs.Matrices.{result, certain, matrix_sheet, lower_wins_all};
+ghost use Rattle.sources.specs.Matrices.{result as result_facts, certain, matrix_sheet, lower_wins_all};
 ghost use Rattle.sources.specs.Lawfulness.{matrix_lawful};
 
 use crate::place::{place_of, turned_to};
@@ -22,7 +22,7 @@ pub struct ResultMatrix {
 }
 
 fn result_of(lower_wins: bool) -> (Fact, Fact)
-    ensures* { λ r. ⌜ r ≡ result lower_wins ⌝ }
+    ensures { result ≡ result_facts lower_wins }
 {
     if lower_wins {
         (Some(0), None)
@@ -32,7 +32,7 @@ fn result_of(lower_wins: bool) -> (Fact, Fact)
 }
 
 fn is_certain(facts: (Fact, Fact)) -> bool
-    ensures* { λ r. ⌜ r ≡ certain facts.0 facts.1 ⌝ }
+    ensures { result ≡ certain facts.0 facts.1 }
 {
     match facts {
         (Some(price), None) | (None, Some(price)) if price == 0 => true,
@@ -43,7 +43,7 @@ fn is_certain(facts: (Fact, Fact)) -> bool
 impl ResultMatrix {
     // A matrix in which the lower number wins every match.
     pub fn lower_always_wins(size: usize) -> Result<ResultMatrix, Refusal>
-        ensures* lower_numbers_win_or_the_size_is_refused { λ r. ⌜ Opened (λ m. matrix_sheet m.size m.lower_wins) size (lower_wins_all size) r ⌝ }
+        ensures lower_numbers_win_or_the_size_is_refused { Opened (λ m. matrix_sheet m.size m.lower_wins) size (lower_wins_all size) result }
     {
         if !is_legal_size(size) {
             return Err(Refusal::SizeNotAllowed);

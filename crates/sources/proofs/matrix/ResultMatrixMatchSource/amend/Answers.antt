@@ -7,9 +7,9 @@ use Rattle.sources.specs.Matrices.{result, certain}
 use Rattle.sources.specs.Holding.{accepted, both_placed, settles}
 use Rattle.sources.proofs.matrix.ResultMatrixMatchSource.amend.Goals as goal
 
-pub place-of-requires : goal.place-of-requires
-place-of-requires c =
-    both_placed c.args.self.now.size c.args.a c.args.b c.args.facts c.is-certain.result c.args.self.now.legal c.in-None.ensures.is-the-first-that-applies
+pub place_of-requires : goal.place_of-requires
+place_of-requires c =
+    both_placed c.args.self.now.size c.args.a c.args.b c.args.facts c.is_certain.result c.args.self.now.legal c.in-None.ensures.is_the_first_that_applies
 
 free_is : (price : ℕ) → eqb price 0 ≡ true → ◌≡◌ {A = Option ℕ} (Some 0) (Some price)
 free_is price h = ap {B = Option ℕ} (λ (p : ℕ). Some p) (sym (eqb-true price 0 h))
@@ -35,9 +35,9 @@ returns-in-None c =
     let b = c.args.b in
     let facts = c.args.facts in
     let none : first_refusal s.size a b facts (certain facts.0 facts.1) ≡ None =
-    ap (first_refusal s.size a b facts) (sym c.is-certain.ensures) ∙ sym c.in-None.ensures.is-the-first-that-applies in
+    ap (first_refusal s.size a b facts) (sym c.is_certain.ensures) ∙ sym c.in-None.ensures.is_the_first_that_applies in
     let sure = certain_turned (ltb a b) facts (accepted s.size a b facts (certain facts.0 facts.1) none).2 in
-    let lower = c.is-free.ensures.says-whether-the-win-costs-nothing ∙ ap (λ (f : Option ℕ × Option ℕ). free f.0) c.turned-to-lower.ensures in
-    let t = settles result (λ a b. certain) s.size s.lower_wins a b c.place-of.result facts c.is-free.result s.whole s.legal none c.place-of.ensures.0
+    let lower = c.is_free.ensures.says_whether_the_win_costs_nothing ∙ ap (λ (f : Option ℕ × Option ℕ). free f.0) c.turned_to-lower.ensures in
+    let t = settles result (λ a b. certain) s.size s.lower_wins a b c.place_of.result facts c.is_free.result s.whole s.legal none c.place_of.ensures.0
     (ap result lower ∙ known (turned a b facts) sure) in
-    record { answers-by-the-first-refusal = t.0; accepted-puts-the-pairing-in = λ _. t.1; refused-changes-nothing = t.2 }
+    record { answers_by_the_first_refusal = t.0; accepted_puts_the_pairing_in = λ _. t.1; refused_changes_nothing = t.2 }

@@ -1,4 +1,4 @@
-use Rattle.std.proofs.Common.{◌≡◌, ℕ, Bool, true, false, cond, not, ◌&&◌, eqb, ltb, Some, None, Option, sym, refl, ap, ◌∙◌}
+use Rattle.std.proofs.Common.{◌≡◌, ℕ, true, false, not, ◌&&◌, eqb, Some, None, Option, sym, refl, ap, ◌∙◌}
 use Rattle.std.proofs.lemmas.Bool.{eqb-true, both_ways, and_parts}
 use Rattle.facts.specs.Facts.{free}
 use Rattle.facts.specs.Amendments.{first_refusal}
@@ -7,9 +7,9 @@ use Rattle.sources.specs.Orders.{standing, plain, ranked}
 use Rattle.sources.specs.Holding.{accepted, both_placed, settles}
 use Rattle.sources.proofs.order.StrengthOrderMatchSource.amend.Goals as goal
 
-pub place-of-requires : goal.place-of-requires
-place-of-requires c =
-    both_placed c.args.self.now.size c.args.a c.args.b c.args.facts c.is-ranked.result c.args.self.now.legal c.in-None.ensures.is-the-first-that-applies
+pub place_of-requires : goal.place_of-requires
+place_of-requires c =
+    both_placed c.args.self.now.size c.args.a c.args.b c.args.facts c.is_ranked.result c.args.self.now.legal c.in-None.ensures.is_the_first_that_applies
 
 free_is : (price : ℕ) → eqb price 0 ≡ true → ◌≡◌ {A = Option ℕ} (Some 0) (Some price)
 free_is price h = ap {B = Option ℕ} (λ (p : ℕ). Some p) (sym (eqb-true price 0 h))
@@ -27,10 +27,10 @@ returns-in-None c =
     let b = c.args.b in
     let facts = c.args.facts in
     let none : first_refusal s.size a b facts (ranked a b facts.0 facts.1) ≡ None =
-    ap (first_refusal s.size a b facts) (sym c.is-ranked.ensures) ∙ sym c.in-None.ensures.is-the-first-that-applies in
+    ap (first_refusal s.size a b facts) (sym c.is_ranked.ensures) ∙ sym c.in-None.ensures.is_the_first_that_applies in
     let sure = and_parts (not (eqb a b)) (free (turned a b facts).0 && plain (turned a b facts).1) (accepted s.size a b facts (ranked a b facts.0 facts.1) none).2 in
     let sides = and_parts (free (turned a b facts).0) (plain (turned a b facts).1) sure.1 in
-    let weaker = c.is-free.ensures.says-whether-the-win-costs-nothing ∙ ap (λ (f : Option ℕ × Option ℕ). free f.1) c.turned-to-weaker.ensures in
-    let t = settles standing ranked s.size s.upsets a b c.place-of.result facts c.is-free.result s.whole s.legal none c.place-of.ensures.0
+    let weaker = c.is_free.ensures.says_whether_the_win_costs_nothing ∙ ap (λ (f : Option ℕ × Option ℕ). free f.1) c.turned_to-weaker.ensures in
+    let t = settles standing ranked s.size s.upsets a b c.place_of.result facts c.is_free.result s.whole s.legal none c.place_of.ensures.0
     (ap standing weaker ∙ known (turned a b facts) sides.0 sides.1) in
-    record { answers-by-the-first-refusal = t.0; accepted-puts-the-pairing-in = λ _. t.1; refused-changes-nothing = t.2 }
+    record { answers_by_the_first_refusal = t.0; accepted_puts_the_pairing_in = λ _. t.1; refused_changes_nothing = t.2 }

@@ -8,7 +8,7 @@ pub returns : goal.returns
 returns c =
     let s = c.args.self.now in
     record {
-      is-a-over-b-then-b-over-a =
-          c.turned-to.ensures ∙ ap (turned c.args.a c.args.b) c.standing-of.ensures
-          ∙ told_facts standing ranked s.size s.upsets c.args.a c.args.b c.place-of.result false s.whole s.legal (sym c.if-not-are-opponents.ensures.says-whether-both-are-entrants-and-differ) c.place-of.ensures.0;
+      is_a_over_b_then_b_over_a =
+          c.turned_to.ensures ∙ ap (turned c.args.a c.args.b) c.standing_of.ensures
+          ∙ told_facts standing ranked s.size s.upsets c.args.a c.args.b c.place_of.result false s.whole s.legal (sym c.if-not-are_opponents.ensures.says_whether_both_are_entrants_and_differ) c.place_of.ensures.0;
     }
