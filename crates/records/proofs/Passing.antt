@@ -1,6 +1,6 @@
 -- What one pass over the words finds, step by step. Assumes nothing.
 use Rattle.std.proofs.Common.{◌≡◌, ℕ, zero, suc, ◌+◌, ◌-◌, ◌*◌, ◌^◌, ◌≤◌, min, Bool, true, false, ◌&&◌, List, [], ◌∷◌, ◌++◌, length, get_or, Some, None, Ok, Err, Option, Result, sym, refl, ap, ◌∙◌, ap₂, append_assoc, arith, length-drop, pow_pos}
-use mathlib.Core.Bool.{and_true, and-false, and_assoc}
+use mathlib.Core.Bool.{and-true, and-false, and_assoc}
 use lib.Bits.{bit_or}
 use Rattle.std.proofs.lemmas.List.{get_or-drop}
 use Rattle.std.proofs.lemmas.Bool.{and_parts}
@@ -56,7 +56,7 @@ here_is k w ws l a b =
 
 -- tests joined in another order, the first of which hangs on two of the others
 regroup : (f g a b c : Bool) → (a ≡ true → b ≡ true → f ≡ g) → (f && (a && (b && c))) ≡ ((g && (a && b)) && c)
-regroup f g true true c h = ap (λ v. v && c) (h refl refl ∙ sym (and_true g))
+regroup f g true true c h = ap (λ v. v && c) (h refl refl ∙ sym (and-true g))
 regroup f g true false c h = and-false f ∙ sym (ap (λ v. v && c) (and-false g))
 regroup f g false b c h = and-false f ∙ sym (ap (λ v. v && c) (and-false g))
 
@@ -104,7 +104,7 @@ module _ {M : Type 0} (A : Semiring M) (f : Field) where
   module _ (law : LawfulSemiring A) where
     at_end : (b : Bool) (x : M) → Ok (b, x) ≡ concluded None (b && true) (A.times x A.one)
     at_end b x =
-        ap₂ {C = Result (Bool × M) Refusal} (λ (c : Bool) (y : M). Ok (c, y)) (sym (and_true b)) (sym (law.times_comm x A.one ∙ law.times_one x))
+        ap₂ {C = Result (Bool × M) Refusal} (λ (c : Bool) (y : M). Ok (c, y)) (sym (and-true b)) (sym (law.times_comm x A.one ∙ law.times_one x))
 
     pub outcome_is : (seen : ℕ) (b : Bool) (x : M) (ks ws : List ℕ)
         → outcome seen b x ks ws ≡ concluded (misplaced f.size seen ks ws) (b && all_fair ks ws) (A.times x (wins_in A f ks ws))

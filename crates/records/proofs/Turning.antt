@@ -1,6 +1,6 @@
 -- The turns of the pass over the words. Assumes nothing.
 use Rattle.std.proofs.Common.{◌≡◌, ℕ, suc, ◌+◌, ◌-◌, ◌^◌, ◌<◌, ◌≤◌, Bool, true, ◌&&◌, List, [], ◌∷◌, length, get_or, set, Some, None, Ok, Err, Option, Result, sym, refl, ap, ◌∙◌, subst, ap₂, append-nil, arith, length-set}
-use mathlib.Core.Bool.{and_true}
+use mathlib.Core.Bool.{and-true}
 use lib.Bits.{bit_or}
 use Rattle.facts.specs.declared.refusals.Refusal.{Refusal}
 use Rattle.algebra.specs.Semirings.{Semiring, LawfulSemiring}
@@ -145,6 +145,6 @@ module _ {M : Type 0} {A : Semiring M} {f : Field} {ws S : List ℕ} {D seen : �
           let count : word_count f.size ≡ word_count (2 ^ k) = ap (λ (m : ℕ). word_count m) z.power in (
             p,
             sym (ap (λ (y : Bool × M). y.0) both) ∙ ap (λ js. all_fair js ws) (sym (append-nil (places k)))
-                ∙ all_agree k [] ws (omega arith) ∙ and_true (agrees k ws),
+                ∙ all_agree k [] ws (omega arith) ∙ and-true (agrees k ws),
             sym (ap (λ (y : Bool × M). y.1) both) ∙ law.times_one (wins_in A f (places k) ws),
           )

@@ -11,8 +11,8 @@ use Rattle.cells.proofs.container.work_out.Goals as goal
 doubled : (level : ℕ) → level < 4 → (2 * 2 ^ level) % 2 ^ 32 ≡ 2 ^ (level + 1)
 doubled level small = shl_whole 2 2 level 32 (omega arith) (omega arith) ∙ sym (twice level)
 
-pub overflow-shl-level : goal.overflow-shl-level
-overflow-shl-level g c = let a = admitted _ (length c.args.memory.now) c.args.level (g.met.S.MatchSource.lawful c.args.source.now).size_legal c.requires in omega (arith, a.small)
+pub overflow_shl-level : goal.overflow_shl-level
+overflow_shl-level g c = let a = admitted _ (length c.args.memory.now) c.args.level (g.met.S.MatchSource.lawful c.args.source.now).size_legal c.requires in omega (arith, a.small)
 
 pub refresh_level-requires : goal.refresh_level-requires
 refresh_level-requires g c =

@@ -8,11 +8,11 @@ use Rattle.cells.proofs.Steps.{start_at, start_none}
 use Rattle.cells.proofs.halves.others_of.Goals as goal
 use Rattle.cells.proofs.halves.others_of.Goals.{else-is_member-via-then-is_member+else-set-eq0, else-is_member-via-else-is_member}
 
-pub overflow-shl-result : goal.overflow-shl-result
-overflow-shl-result c = member_lt 32 c.args.set c.args.entrant (omega arith) (bit_true c.args.set c.args.entrant (sym c.if-is_member.ensures.says_whether_he_is_a_member))
+pub overflow_shl-result : goal.overflow_shl-result
+overflow_shl-result c = member_lt 32 c.args.set c.args.entrant (omega arith) (bit_true c.args.set c.args.entrant (sym c.if-is_member.ensures.says_whether_he_is_a_member))
 
-pub overflow-sub-result : goal.overflow-sub-result
-overflow-sub-result c =
+pub overflow_sub-result : goal.overflow_sub-result
+overflow_sub-result c =
     let h = sym c.if-is_member.ensures.says_whether_he_is_a_member in
     let l = member_lt 32 c.args.set c.args.entrant (omega arith) (bit_true c.args.set c.args.entrant h) in
     omega (arith, one_shl c.args.entrant 32 l, part_le (2 ^ c.args.entrant) c.args.set (one_part c.args.set c.args.entrant h))

@@ -3,8 +3,8 @@ use Rattle.cells.specs.Renewal.{cell_of}
 use Rattle.cells.proofs.Adding.{get_or-means}
 use Rattle.cells.proofs.refresh.cell_of.Goals as goal
 
-pub offset-bounds-cells-index_of : goal.offset-bounds-cells-index_of
-offset-bounds-cells-index_of g c =
+pub offset_bounds-cells-index_of : goal.offset_bounds-cells-index_of
+offset_bounds-cells-index_of g c =
     let u : c.index_of.result < length c.args.cells.now = omega (arith, c.requires.1.1.1, c.index_of.ensures.is_within_the_needed_cells c.requires.0 c.requires.1.0 c.requires.1.1.0) in
     search rules
 

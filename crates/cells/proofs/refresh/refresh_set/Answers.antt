@@ -83,8 +83,8 @@ win-requires g c =
     let h = c.requires.1.1 in
     (c.requires.0, (omega arith, (omega arith, (in_reach c.loop-left.left c.requires.0 c.requires.1.1 c.loop-left.invariant.0 c.lowest-winner.ensures.is_the_lowest_member).0)))
 
-pub offset-bounds-sums-winner : goal.offset-bounds-sums-winner
-offset-bounds-sums-winner g c = let l = (in_reach c.loop-left.left c.requires.0 c.requires.1.1 c.loop-left.invariant.0 c.lowest-winner.ensures.is_the_lowest_member).2 in search rules
+pub offset_bounds-sums-winner : goal.offset_bounds-sums-winner
+offset_bounds-sums-winner g c = let l = (in_reach c.loop-left.left c.requires.0 c.requires.1.1 c.loop-left.invariant.0 c.lowest-winner.ensures.is_the_lowest_member).2 in search rules
 
 pub listed : goal.listed
 listed g c = let l = (in_reach c.loop-left.left c.requires.0 c.requires.1.1 c.loop-left.invariant.0 c.lowest-winner.ensures.is_the_lowest_member).1 in omega (arith, c.loop-left.invariant.1)
@@ -92,8 +92,8 @@ listed g c = let l = (in_reach c.loop-left.left c.requires.0 c.requires.1.1 c.lo
 pub bounds-sums-winner : goal.bounds-sums-winner
 bounds-sums-winner g c = (in_reach c.loop-left.left c.requires.0 c.requires.1.1 c.loop-left.invariant.0 c.lowest-winner.ensures.is_the_lowest_member).1
 
-pub offset-bounds-sums-winner-in-loop-left : goal.offset-bounds-sums-winner-in-loop-left
-offset-bounds-sums-winner-in-loop-left g c = let l = (in_reach c.loop-left.left c.requires.0 c.requires.1.1 c.loop-left.invariant.0 c.lowest-winner.ensures.is_the_lowest_member).2 in search rules
+pub offset_bounds-sums-winner-in-loop-left : goal.offset_bounds-sums-winner-in-loop-left
+offset_bounds-sums-winner-in-loop-left g c = let l = (in_reach c.loop-left.left c.requires.0 c.requires.1.1 c.loop-left.invariant.0 c.lowest-winner.ensures.is_the_lowest_member).2 in search rules
 
 pub listed-in-loop-left : goal.listed-in-loop-left
 listed-in-loop-left g c = let l = (in_reach c.loop-left.left c.requires.0 c.requires.1.1 c.loop-left.invariant.0 c.lowest-winner.ensures.is_the_lowest_member).1 in omega (arith, c.loop-left.invariant.1)
@@ -111,8 +111,8 @@ loop-unwritten-init g c =
 pub loop-unwritten-smaller : goal.loop-unwritten-smaller
 loop-unwritten-smaller g c = off_less c.loop-unwritten.unwritten c.loop-unwritten-test.true
 
-pub offset-bounds-sums-entrant : goal.offset-bounds-sums-entrant
-offset-bounds-sums-entrant g c = let l = (in_reach c.loop-unwritten.unwritten c.requires.0 c.requires.1.1 c.loop-unwritten.invariant.0 c.lowest-entrant.ensures.is_the_lowest_member).2 in search rules
+pub offset_bounds-sums-entrant : goal.offset_bounds-sums-entrant
+offset_bounds-sums-entrant g c = let l = (in_reach c.loop-unwritten.unwritten c.requires.0 c.requires.1.1 c.loop-unwritten.invariant.0 c.lowest-entrant.ensures.is_the_lowest_member).2 in search rules
 
 pub listed-in-loop-unwritten : goal.listed-in-loop-unwritten
 listed-in-loop-unwritten g c = let l = (in_reach c.loop-unwritten.unwritten c.requires.0 c.requires.1.1 c.loop-unwritten.invariant.0 c.lowest-entrant.ensures.is_the_lowest_member).1 in omega (arith, c.loop-half.invariant.2)
@@ -120,8 +120,8 @@ listed-in-loop-unwritten g c = let l = (in_reach c.loop-unwritten.unwritten c.re
 pub bounds-sums-entrant : goal.bounds-sums-entrant
 bounds-sums-entrant g c = (in_reach c.loop-unwritten.unwritten c.requires.0 c.requires.1.1 c.loop-unwritten.invariant.0 c.lowest-entrant.ensures.is_the_lowest_member).1
 
-pub offset-bounds-memory-index_of : goal.offset-bounds-memory-index_of
-offset-bounds-memory-index_of g c = let u : c.index_of.result < length c.loop-unwritten.memory = omega (arith, c.index_of.ensures.is_within_the_needed_cells c.requires.0.few c.requires.1.1 (in_reach c.loop-unwritten.unwritten c.requires.0 c.requires.1.1 c.loop-unwritten.invariant.0 c.lowest-entrant.ensures.is_the_lowest_member).0, c.requires.0.cells_fit, c.loop-unwritten.auto.memory) in search rules
+pub offset_bounds-memory-index_of : goal.offset_bounds-memory-index_of
+offset_bounds-memory-index_of g c = let u : c.index_of.result < length c.loop-unwritten.memory = omega (arith, c.index_of.ensures.is_within_the_needed_cells c.requires.0.few c.requires.1.1 (in_reach c.loop-unwritten.unwritten c.requires.0 c.requires.1.1 c.loop-unwritten.invariant.0 c.lowest-entrant.ensures.is_the_lowest_member).0, c.requires.0.cells_fit, c.loop-unwritten.auto.memory) in search rules
 
 pub bounds-memory-index_of : goal.bounds-memory-index_of
 bounds-memory-index_of g c = omega (arith, c.index_of.ensures.is_within_the_needed_cells c.requires.0.few c.requires.1.1 (in_reach c.loop-unwritten.unwritten c.requires.0 c.requires.1.1 c.loop-unwritten.invariant.0 c.lowest-entrant.ensures.is_the_lowest_member).0, c.requires.0.cells_fit, c.loop-unwritten.auto.memory)
@@ -144,7 +144,7 @@ loop-unwritten-preserved g c =
     let v = get_or sums w c.index-sums-entrant.result in
     let h = c.loop-half.halves in
     let i = c.loop-half.invariant in
-    let ends = none_at (of_size n) h.set s h.entrant c.lowest-first.result h.place i.0 i.1 (c.in-default.ensures.is_the_first_ahead_or_none_where_none_is (of_size n)).0 in
+    let ends = none_at (of_size n) h.set s h.entrant c.lowest-first.result h.place i.0 i.1 (c.in_default.ensures.is_the_first_ahead_or_none_where_none_is (of_size n)).0 in
     let l = in_reach left c.requires.0 c.requires.1.1 within low in
     let few = l.1 in
     let k : w < length sums = omega (arith, i.2) in

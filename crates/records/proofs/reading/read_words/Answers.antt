@@ -41,15 +41,15 @@ is_fair-fair-requires g c =
     let positive : 0 < k = omega arith in
     (positive, (omega arith, enough l.rest.now l.stack l.depth some (omega arith) l.invariant.left k positive refl))
 
-pub loop-rest-preserved-in-default-leaf_refusal : goal.loop-rest-preserved-in-default-leaf_refusal
-loop-rest-preserved-in-default-leaf_refusal g c =
+pub loop-rest-preserved-in_default-leaf_refusal : goal.loop-rest-preserved-in_default-leaf_refusal
+loop-rest-preserved-in_default-leaf_refusal g c =
     let l = c.loop-rest in
     let m = g.V.Algebra in
     let f = field_of (g.S.MatchSource.sheet c.args.source.now) in
     let some : 0 < length l.rest.now = omega (arith, ltb-false) in
     let w : ℕ = get_or l.rest.now 0 0 in
     let size = c.size-size.ensures.is_the_size_of_the_field in
-    let none = c.in-default-leaf_refusal.is in
+    let none = c.in_default-leaf_refusal.is in
     let low = leaf_low l.invariant some c.size-size.result c.leaf_refusal.result size c.leaf_refusal.ensures none in
     let P : ℕ → Type 0 =
     λ v. Stand m.semiring f c.args.words.now l.stack (l.depth - 1) (bit_or l.seen v) l.fair (m.means l.weight) (after_first l.rest.now) in
@@ -65,7 +65,7 @@ loop-rest-preserved g c =
     let is : k ≡ suc (k - 1) = omega arith in
     match_turn l.invariant some (k - 1) c.match_refusal.result c.match_of-told.result
     c.is_fair-fair.result (m.means c.times-weight.result) (m.means c.match_weight.result)
-    is c.match_refusal.ensures c.in-default-match_refusal.is c.match_of-told.ensures
+    is c.match_refusal.ensures c.in_default-match_refusal.is c.match_of-told.ensures
     c.is_fair-fair.ensures c.match_weight.ensures c.times-weight.ensures.means_the_product
 
 pub returns : goal.returns

@@ -13,5 +13,5 @@ returns-in-4 c = let e : c.args.size ≡ 4 = omega arith in sym (ap rounds e ∙
 pub returns-in-8 : goal.returns-in-8
 returns-in-8 c = let e : c.args.size ≡ 8 = omega arith in sym (ap rounds e ∙ rounds_pow 3)
 
-pub returns-in-default : goal.returns-in-default
-returns-in-default c = let e : c.args.size ≡ 16 = omega (arith, legal_cases c.args.size c.requires) in sym (ap rounds e ∙ rounds_pow 4)
+pub returns-in_default : goal.returns-in_default
+returns-in_default c = let e : c.args.size ≡ 16 = omega (arith, legal_cases c.args.size c.requires) in sym (ap rounds e ∙ rounds_pow 4)

@@ -19,13 +19,13 @@ told_size n m h e =
 told_length : (n m : ℕ) (ws : List ℕ) → m ≡ n → length ws ≡ 2 * m - 1 → length ws ≡ word_count n
 told_length n m ws e h = omega arith
 
-pub overflow-mul-size : goal.overflow-mul-size
-overflow-mul-size g c =
+pub overflow_mul-size : goal.overflow_mul-size
+overflow_mul-size g c =
     let n = told_size _ c.size.result (g.met.S.MatchSource.lawful c.args.source.now).size_legal c.size.ensures.is_the_size_of_the_field in
     omega arith
 
-pub overflow-sub-size : goal.overflow-sub-size
-overflow-sub-size g c =
+pub overflow_sub-size : goal.overflow_sub-size
+overflow_sub-size g c =
     let n = told_size _ c.size.result (g.met.S.MatchSource.lawful c.args.source.now).size_legal c.size.ensures.is_the_size_of_the_field in
     omega arith
 
@@ -38,15 +38,15 @@ returns-then-words-size g c =
     RecordLengthWrong (wrong_length s.size ws (λ e. c.if-words-size.true (omega arith))) in
     record { accepts_exactly_the_records = r.0; refuses_by_the_first_reason = r.1 }
 
-pub returns-in-err-found : goal.returns-in-err-found
-returns-in-err-found g c =
+pub returns-in_err-found : goal.returns-in_err-found
+returns-in_err-found g c =
     let s = g.S.MatchSource.sheet c.args.source.now in
     let ws = c.args.words.now in
     let long = told_length s.size c.size.result ws c.size.ensures.is_the_size_of_the_field c.if-words-size.false in
-    let e = c.in-err-found.field-0.0 in
+    let e = c.in_err-found.field-0.0 in
     let p = err_from_is_err_and c.from-residual.result c.from-residual.ensures.1 in
     let r = refused g.V.Algebra.means g.V.Algebra.semiring g.met.V.Algebra.lawful (field_of s) (g.met.S.MatchSource.lawful c.args.source.now).size_legal ws
-    e (wrong_place s.size ws e long c.in-err-found.ensures) in
+    e (wrong_place s.size ws e long c.in_err-found.ensures) in
     rw (p.1, p.2) (record { accepts_exactly_the_records = r.0; refuses_by_the_first_reason = r.1 })
 
 pub returns-then-not-found : goal.returns-then-not-found
@@ -54,9 +54,9 @@ returns-then-not-found g c =
     let s = g.S.MatchSource.sheet c.args.source.now in
     let ws = c.args.words.now in
     let long = told_length s.size c.size.result ws c.size.ensures.is_the_size_of_the_field c.if-words-size.false in
-    let found = c.in-ok-found.ensures in
+    let found = c.in_ok-found.ensures in
     let r = refused g.V.Algebra.means g.V.Algebra.semiring g.met.V.Algebra.lawful (field_of s) (g.met.S.MatchSource.lawful c.args.source.now).size_legal ws
-    MatchImpossible (wrong_match s.size ws c.in-ok-found.found.fair long found.0 found.1 c.if-not-found.true) in
+    MatchImpossible (wrong_match s.size ws c.in_ok-found.found.fair long found.0 found.1 c.if-not-found.true) in
     record { accepts_exactly_the_records = r.0; refuses_by_the_first_reason = r.1 }
 
 pub bounds-words-0 : goal.bounds-words-0
@@ -70,8 +70,8 @@ returns g c =
     let s = g.S.MatchSource.sheet c.args.source.now in
     let ws = c.args.words.now in
     let long = told_length s.size c.size.result ws c.size.ensures.is_the_size_of_the_field c.if-words-size.false in
-    let found = c.in-ok-found.ensures in
+    let found = c.in_ok-found.ensures in
     let r = accepted g.V.Algebra.means g.V.Algebra.semiring g.met.V.Algebra.lawful (field_of s) (g.met.S.MatchSource.lawful c.args.source.now).size_legal ws
-    c.champion_of.result c.in-ok-found.found.weight
-    (nothing_wrong s.size ws c.in-ok-found.found.fair long found.0 found.1 c.if-not-found.false) c.champion_of.ensures found.2 in
+    c.champion_of.result c.in_ok-found.found.weight
+    (nothing_wrong s.size ws c.in_ok-found.found.fair long found.0 found.1 c.if-not-found.false) c.champion_of.ensures found.2 in
     record { accepts_exactly_the_records = r.0; refuses_by_the_first_reason = r.1 }

@@ -15,8 +15,8 @@ pub returns : goal.returns
 returns c =
     let same =
     same_row (decimal c.args.entrant) (chance_text c.args.can_win.possible) (draws_text (counted c.args.draws.count).number) (price_text (held c.args.bribe.number).price)
-    (c.deref.ensures ∙ c.in-ok-number.ensures.ok)
-    (c.deref-2.ensures ∙ c.in-ok-chance.ensures.ok)
-    (c.deref-3.ensures ∙ c.in-ok-count.ensures.reads_the_count_or_that_many_and_more)
-    (c.deref-4.ensures ∙ c.in-ok-price.ensures.reads_the_price_or_none) in
+    (c.deref.ensures ∙ c.in_ok-number.ensures.ok)
+    (c.deref-2.ensures ∙ c.in_ok-chance.ensures.ok)
+    (c.deref-3.ensures ∙ c.in_ok-count.ensures.reads_the_count_or_that_many_and_more)
+    (c.deref-4.ensures ∙ c.in_ok-price.ensures.reads_the_price_or_none) in
     record { tells_the_entrant_and_then_the_answers = made_same string_bytes c.report_row.result same c.report_row.ensures }

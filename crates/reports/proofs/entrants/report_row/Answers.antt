@@ -13,6 +13,6 @@ same_columns p q r s = λ i. titled (p i) (q i) (r i) (s i)
 pub returns : goal.returns
 returns c =
     let same =
-    same_columns c.in-ok-entrant.ensures.stands_at_the_right_end c.in-ok-can_win.ensures.stands_at_the_right_end
-    c.in-ok-draws.ensures.stands_at_the_right_end c.in-ok-bribe.ensures.stands_at_the_right_end in
+    same_columns c.in_ok-entrant.ensures.stands_at_the_right_end c.in_ok-can_win.ensures.stands_at_the_right_end
+    c.in_ok-draws.ensures.stands_at_the_right_end c.in_ok-bribe.ensures.stands_at_the_right_end in
     made_same string_bytes c.format.result same c.format.ensures.ok

@@ -15,9 +15,9 @@ returns-in-Ok g c =
     let xs = c.args.cells.now.memory.now in
     let ys = c.open.new.cells.memory.now in
     let zs = c.start.new.cells.memory.now in
-    let opened = answered_then _ _ c.in-ok-empty.empty c.in-ok-empty.ensures.is_of_that_size_or_the_first_refusal in
+    let opened = answered_then _ _ c.in_ok-empty.empty c.in_ok-empty.ensures.is_of_that_size_or_the_first_refusal in
     let room = open_room n (length xs) opened.0 in
-    let cleared = changed_then _ xs ys _ opened.0 c.in-ok-empty.ensures.clears_the_needed_cells_or_changes_nothing in
+    let cleared = changed_then _ xs ys _ opened.0 c.in_ok-empty.ensures.clears_the_needed_cells_or_changes_nothing in
     let started = handed_then _ _ _ c.in-Ok.stage c.in-Ok.ensures.moves_to_level_nought_or_hands_the_stage_back in
     let seated = subst (λ (k : ℕ). Renewal m.semiring m.means k (of_singles k) (λ _ _. m.semiring.one) ys zs) opened.1 (changed_then _ ys zs _ started.0 c.in-Ok.ensures.seats_the_single_entrants_or_changes_nothing) in
     record {
@@ -34,9 +34,9 @@ returns-in-Err g c =
     let n = c.args.n in
     let xs = c.args.cells.now.memory.now in
     let ys = c.open.new.cells.memory.now in
-    let opened = answered_then _ _ c.in-ok-empty.empty c.in-ok-empty.ensures.is_of_that_size_or_the_first_refusal in
+    let opened = answered_then _ _ c.in_ok-empty.empty c.in_ok-empty.ensures.is_of_that_size_or_the_first_refusal in
     let room = open_room n (length xs) opened.0 in
-    let cleared = changed_then _ xs ys _ opened.0 c.in-ok-empty.ensures.clears_the_needed_cells_or_changes_nothing in
+    let cleared = changed_then _ xs ys _ opened.0 c.in_ok-empty.ensures.clears_the_needed_cells_or_changes_nothing in
     absurd (not_both _ c.in-Err.refused.1
     (ap₂ (λ (k l : ℕ). room_refusal k l) opened.1 cleared.same_length ∙ room_free n (length xs) room.1)
     (handed_back _ _ _ c.in-Err.refused c.in-Err.ensures.moves_to_level_nought_or_hands_the_stage_back))

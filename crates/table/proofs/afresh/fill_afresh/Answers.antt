@@ -9,18 +9,18 @@ use Rattle.table.specs.Refusing.{open_refusal}
 use Rattle.table.proofs.Opened.{open_as_room, begun_from, rounds_by_zeros, fill_free, finish_free, level_tail, tail_then}
 use Rattle.table.proofs.afresh.fill_afresh.Goals as goal
 
-pub returns-in-err-stage : goal.returns-in-err-stage
-returns-in-err-stage g c =
+pub returns-in_err-stage : goal.returns-in_err-stage
+returns-in_err-stage g c =
     let m = g.V.Algebra in
     let n = c.size-n.result in
     let f = field_of (g.S.MatchSource.sheet c.args.source.now) in
     let xs = c.args.cells.now.memory.now in
     let ys = c.begin.new.cells.memory.now in
     let is = c.size-n.ensures.is_the_size_of_the_field in
-    let e = c.in-err-stage.field-0.0 in
+    let e = c.in_err-stage.field-0.0 in
     let legal = (g.met.S.MatchSource.lawful c.args.source.now).size_legal in
-    let refused = answered_back _ _ e c.in-err-stage.ensures.is_at_level_nought_or_the_first_refusal in
-    let same = changed_back _ xs ys _ e refused c.in-err-stage.ensures.has_the_first_level_of_every_field_or_changes_nothing in
+    let refused = answered_back _ _ e c.in_err-stage.ensures.is_at_level_nought_or_the_first_refusal in
+    let same = changed_back _ xs ys _ e refused c.in_err-stage.ensures.has_the_first_level_of_every_field_or_changes_nothing in
     let short = sym (open_as_room f.size (length xs) legal) ∙ ap (λ (k : ℕ). open_refusal k (length xs)) (sym is) ∙ refused in
     let p = err_from_is_err_and c.from-residual.result c.from-residual.ensures.1 in
     record {
@@ -35,8 +35,8 @@ loop-init g c =
     let xs = c.args.cells.now.memory.now in
     let ys = c.begin.new.cells.memory.now in
     let is = c.size-n.ensures.is_the_size_of_the_field in
-    let opened = answered_then _ _ c.in-ok-stage.stage c.in-ok-stage.ensures.is_at_level_nought_or_the_first_refusal in
-    let b = begun_from m.semiring m.means f c.size-n.result xs ys is opened.0 (changed_then _ xs ys _ opened.0 c.in-ok-stage.ensures.has_the_first_level_of_every_field_or_changes_nothing) in (
+    let opened = answered_then _ _ c.in_ok-stage.stage c.in_ok-stage.ensures.is_at_level_nought_or_the_first_refusal in
+    let b = begun_from m.semiring m.means f c.size-n.result xs ys is opened.0 (changed_then _ xs ys _ opened.0 c.in_ok-stage.ensures.has_the_first_level_of_every_field_or_changes_nothing) in (
       opened.1.0 ∙ is,
       opened.1.1,
       subst (λ (k : ℕ). FilledTo m.semiring f k (map m.means ys)) (sym opened.1.1) b.first,
@@ -52,8 +52,8 @@ returns-in-Err g c =
     let xs = c.args.cells.now.memory.now in
     let ys = c.begin.new.cells.memory.now in
     let is = c.size-n.ensures.is_the_size_of_the_field in
-    let opened = answered_then _ _ c.in-ok-stage.stage c.in-ok-stage.ensures.is_at_level_nought_or_the_first_refusal in
-    let b = begun_from m.semiring m.means f n xs ys is opened.0 (changed_then _ xs ys _ opened.0 c.in-ok-stage.ensures.has_the_first_level_of_every_field_or_changes_nothing) in
+    let opened = answered_then _ _ c.in_ok-stage.stage c.in_ok-stage.ensures.is_at_level_nought_or_the_first_refusal in
+    let b = begun_from m.semiring m.means f n xs ys is opened.0 (changed_then _ xs ys _ opened.0 c.in_ok-stage.ensures.has_the_first_level_of_every_field_or_changes_nothing) in
     let i = c.loop.invariant in
     let zeros = rounds_by_zeros f.size (g.met.S.MatchSource.lawful c.args.source.now).size_legal in
     let below : c.loop.stage.level < count_trailing_zeros 64 f.size = omega (arith, c.loop-test.true, i.1, ap (count_trailing_zeros 64) is) in
@@ -69,8 +69,8 @@ loop-preserved g c =
     let xs = c.args.cells.now.memory.now in
     let ys = c.begin.new.cells.memory.now in
     let is = c.size-n.ensures.is_the_size_of_the_field in
-    let opened = answered_then _ _ c.in-ok-stage.stage c.in-ok-stage.ensures.is_at_level_nought_or_the_first_refusal in
-    let b = begun_from m.semiring m.means f c.size-n.result xs ys is opened.0 (changed_then _ xs ys _ opened.0 c.in-ok-stage.ensures.has_the_first_level_of_every_field_or_changes_nothing) in
+    let opened = answered_then _ _ c.in_ok-stage.stage c.in_ok-stage.ensures.is_at_level_nought_or_the_first_refusal in
+    let b = begun_from m.semiring m.means f c.size-n.result xs ys is opened.0 (changed_then _ xs ys _ opened.0 c.in_ok-stage.ensures.has_the_first_level_of_every_field_or_changes_nothing) in
     let i = c.loop.invariant in
     let before = c.loop.cells.memory.now in
     let after = c.fill.new.cells.memory.now in
@@ -88,8 +88,8 @@ returns-in-Ok-finish g c =
     let xs = c.args.cells.now.memory.now in
     let ys = c.begin.new.cells.memory.now in
     let is = c.size-n.ensures.is_the_size_of_the_field in
-    let opened = answered_then _ _ c.in-ok-stage.stage c.in-ok-stage.ensures.is_at_level_nought_or_the_first_refusal in
-    let b = begun_from m.semiring m.means f c.size-n.result xs ys is opened.0 (changed_then _ xs ys _ opened.0 c.in-ok-stage.ensures.has_the_first_level_of_every_field_or_changes_nothing) in
+    let opened = answered_then _ _ c.in_ok-stage.stage c.in_ok-stage.ensures.is_at_level_nought_or_the_first_refusal in
+    let b = begun_from m.semiring m.means f c.size-n.result xs ys is opened.0 (changed_then _ xs ys _ opened.0 c.in_ok-stage.ensures.has_the_first_level_of_every_field_or_changes_nothing) in
     let i = c.loop.invariant in
     let after = c.loop.cells.memory.now in
     let done = handed_then _ _ _ c.in-Ok-finish.complete c.in-Ok-finish.ensures.completes_the_table_or_hands_the_stage_back in

@@ -7,8 +7,8 @@ use Rattle.table.proofs.singles.seat_singles.Goals as goal
 single : (n e : ℕ) → n ≤ 16 → e < n → (1 * 2 ^ e) % 2 ^ 32 < 2 ^ n
 single n e few l = omega (arith, one_shl e 32 (omega arith), pow_below e n l)
 
-pub offset-bounds-memory-index_of : goal.offset-bounds-memory-index_of
-offset-bounds-memory-index_of g c =
+pub offset_bounds-memory-index_of : goal.offset_bounds-memory-index_of
+offset_bounds-memory-index_of g c =
     let few = c.requires.1.0 in
     let l = c.loop-entrant-test.true in
     let u : c.index_of.result < length c.loop-entrant.memory = omega (arith, c.index_of.ensures.is_within_the_needed_cells few (single c.args.n c.loop-entrant.entrant few l) l, c.requires.1.1, c.loop-entrant.auto.memory) in

@@ -9,8 +9,8 @@ use Rattle.table.proofs.Asked.{set_below, set_more}
 use Rattle.table.proofs.winners.collect_winners.Goals as goal
 use Rattle.table.proofs.winners.collect_winners.Goals.{then-is_possible, else-is_possible}
 
-pub overflow-add-winners : goal.overflow-add-winners
-overflow-add-winners c =
+pub overflow_add-winners : goal.overflow_add-winners
+overflow_add-winners c =
     let n = c.args.n in
     let few = (legal_some n c.requires.0).1 in
     let w = c.loop-entrant.entrant in

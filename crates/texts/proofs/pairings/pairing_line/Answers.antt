@@ -12,8 +12,8 @@ pub returns : goal.returns
 returns c =
     let same =
     same_row (decimal c.args.a) (decimal c.args.b) (fact_text c.args.facts.0) (fact_text c.args.facts.1)
-    (c.deref.ensures ∙ c.in-ok-first.ensures.ok)
-    (c.deref-2.ensures ∙ c.in-ok-second.ensures.ok)
-    (c.deref-3.ensures ∙ c.in-ok-first_wins.ensures.reads_free_or_the_price_or_never)
-    (c.deref-4.ensures ∙ c.in-ok-second_wins.ensures.reads_free_or_the_price_or_never) in
+    (c.deref.ensures ∙ c.in_ok-first.ensures.ok)
+    (c.deref-2.ensures ∙ c.in_ok-second.ensures.ok)
+    (c.deref-3.ensures ∙ c.in_ok-first_wins.ensures.reads_free_or_the_price_or_never)
+    (c.deref-4.ensures ∙ c.in_ok-second_wins.ensures.reads_free_or_the_price_or_never) in
     record { tells_the_entrants_and_then_their_facts = made_same string_bytes c.table_row.result same c.table_row.ensures }

@@ -15,15 +15,15 @@ returns-then-rest-eq0 c =
       stays_with_its_set_and_entrant = (refl, refl);
     }
 
-pub overflow-add-self : goal.overflow-add-self
-overflow-add-self c =
+pub overflow_add-self : goal.overflow_add-self
+overflow_add-self c =
     let w = c.args.self.now in
     let l : 0 < c.due-rest.result = omega arith in
     let g = due_given w.set w.entrant w.others w.wanted w.rest c.due-rest.result c.due-rest.ensures.is_what_the_next_half_leaves l in
     omega (arith, place_within w.set w.entrant w.rest w.place _ _ w.left g)
 
-pub invariant-of-self : goal.invariant-of-self
-invariant-of-self c =
+pub invariant_of-self : goal.invariant_of-self
+invariant_of-self c =
     let w = c.args.self.now in
     let r = c.due-rest.result in
     let l : 0 < r = omega arith in

@@ -9,14 +9,14 @@ use Rattle.table.proofs.Rising.{one_more_level}
 use Rattle.table.proofs.Roomy.{accepted, level_above, fill_as_refresh}
 use Rattle.table.proofs.stages.LevelFilled.fill.Goals as goal
 
-pub overflow-add-result : goal.overflow-add-result
-overflow-add-result g c =
+pub overflow_add-result : goal.overflow_add-result
+overflow_add-result g c =
     let is = sym c.size.ensures.is_the_size_of_the_field ∙ c.if-size-self.false in
     let room = unrefused _ _ c.args.self.level (sym (accepted _ c.in-Ok.ensures.answers_by_the_first_refusal)) in
     omega (arith, (level_above c.args.self.size c.args.self.level c.args.self.legal (omega (arith, room.1, is))).0)
 
-pub invariant-of-result : goal.invariant-of-result
-invariant-of-result g c =
+pub invariant_of-result : goal.invariant_of-result
+invariant_of-result g c =
     let is = sym c.size.ensures.is_the_size_of_the_field ∙ c.if-size-self.false in
     let room = unrefused _ _ c.args.self.level (sym (accepted _ c.in-Ok.ensures.answers_by_the_first_refusal)) in
     (c.args.self.legal, ((level_above c.args.self.size c.args.self.level c.args.self.legal (omega (arith, room.1, is))).1, tt))

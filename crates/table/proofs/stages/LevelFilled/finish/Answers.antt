@@ -3,5 +3,5 @@ use Rattle.facts.proofs.Refusing.{legal_some}
 use Rattle.table.proofs.Roomy.{level_low}
 use Rattle.table.proofs.stages.LevelFilled.finish.Goals as goal
 
-pub overflow-shl-self : goal.overflow-shl-self
-overflow-shl-self g c = omega (arith, level_low c.args.self.size c.args.self.level (legal_some c.args.self.size c.args.self.legal).1 c.args.self.within)
+pub overflow_shl-self : goal.overflow_shl-self
+overflow_shl-self g c = omega (arith, level_low c.args.self.size c.args.self.level (legal_some c.args.self.size c.args.self.legal).1 c.args.self.within)

@@ -5,8 +5,8 @@ use Rattle.table.specs.Questions.{winners_of}
 use Rattle.table.proofs.Asked.{final_winners}
 use Rattle.table.proofs.winners.Complete+Possibility.winners.Goals as goal
 
-pub returns-in-default : goal.returns-in-default
-returns-in-default c =
+pub returns-in_default : goal.returns-in_default
+returns-in_default c =
     record {
       are_those_whose_cells_mean_yes_or_the_first_refusal = search rules;
       on_a_table_in_order_are_those_who_can_win = λ f e p.
