@@ -44,7 +44,7 @@ returns-in_err-found g c =
     let ws = c.args.words.now in
     let long = told_length s.size c.size.result ws c.size.ensures.is_the_size_of_the_field c.if-words-size.false in
     let e = c.in_err-found.field-0.0 in
-    let p = err_from_is_err_and c.from-residual.result c.from-residual.ensures.1 in
+    let p = err_from_is_err_and c.from_residual.result c.from_residual.ensures.1 in
     let r = refused g.V.Algebra.means g.V.Algebra.semiring g.met.V.Algebra.lawful (field_of s) (g.met.S.MatchSource.lawful c.args.source.now).size_legal ws
     e (wrong_place s.size ws e long c.in_err-found.ensures) in
     rw (p.1, p.2) (record { accepts_exactly_the_records = r.0; refuses_by_the_first_reason = r.1 })

@@ -27,10 +27,11 @@ invariant_of-self c =
     let w = c.args.self.now in
     let r = c.due-rest.result in
     let l : 0 < r = omega arith in
-    let g = due_given w.set w.entrant w.others w.wanted w.rest r c.due-rest.ensures.is_what_the_next_half_leaves l in (
-      (λ _. trying_next w.set w.entrant w.others w.wanted r (c.due-rest.ensures.is_what_the_next_half_leaves.1 l).0),
-      (ahead_next w.set w.entrant w.rest w.place _ _ w.left g, tt),
-    )
+    let g = due_given w.set w.entrant w.others w.wanted w.rest r c.due-rest.ensures.is_what_the_next_half_leaves l in
+    record {
+      trying = λ _. trying_next w.set w.entrant w.others w.wanted r (c.due-rest.ensures.is_what_the_next_half_leaves.1 l).0;
+      left = ahead_next w.set w.entrant w.rest w.place _ _ w.left g;
+    }
 
 pub returns : goal.returns
 unfolding ahead
