@@ -22,9 +22,9 @@ returns-in_err-stage g c =
     let refused = answered_back _ _ e c.in_err-stage.ensures.is_at_level_nought_or_the_first_refusal in
     let same = changed_back _ xs ys _ e refused c.in_err-stage.ensures.has_the_first_level_of_every_field_or_changes_nothing in
     let short = sym (open_as_room f.size (length xs) legal) ∙ ap (λ (k : ℕ). open_refusal k (length xs)) (sym is) ∙ refused in
-    let p = err_from_is_err_and c.from-residual.result c.from-residual.ensures.1 in
+    let p = err_from_is_err_and c.from_residual.result c.from_residual.ensures.1 in
     record {
-      is_complete_or_the_refusal = answered_err _ _ c.from-residual.result p.0 e p.1 p.2 short;
+      is_complete_or_the_refusal = answered_err _ _ c.from_residual.result p.0 e p.1 p.2 short;
       every_needed_cell_means_its_figure_or_nothing_changed = changed_not _ xs ys _ e short same;
     }
 

@@ -19,7 +19,10 @@ pub invariant_of-result : goal.invariant_of-result
 invariant_of-result g c =
     let is = sym c.size.ensures.is_the_size_of_the_field ∙ c.if-size-self.false in
     let room = unrefused _ _ c.args.self.level (sym (accepted _ c.in-Ok.ensures.answers_by_the_first_refusal)) in
-    (c.args.self.legal, ((level_above c.args.self.size c.args.self.level c.args.self.legal (omega (arith, room.1, is))).1, tt))
+    record {
+      legal = c.args.self.legal;
+      within = (level_above c.args.self.size c.args.self.level c.args.self.legal (omega (arith, room.1, is))).1;
+    }
 
 pub returns-in-Ok : goal.returns-in-Ok
 returns-in-Ok g c =
