@@ -1,7 +1,6 @@
-use Rattle.std.proofs.Common.{◌≡◌, ℕ, ◌+◌, cond, length, sym, ap, ◌∙◌, arith}
-use Rattle.std.specs.List.{range_with_len}
+use Rattle.std.proofs.Common.{◌≡◌, ℕ, cond, length, sym, ap, arith}
 use Rattle.sheets.specs.Holdings.{sheet_at}
-use Rattle.sheets.specs.Contents.{row_at, gathered}
+use Rattle.sheets.specs.Contents.{row_at}
 use Rattle.sheets.proofs.Stepping.{gathered_count, rows_all}
 use Rattle.sheets.proofs.writer.count_words.Goals as goal
 use Rattle.sheets.proofs.writer.count_words.Goals.{then-is_some, else-is_some}

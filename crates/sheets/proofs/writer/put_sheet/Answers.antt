@@ -1,4 +1,4 @@
-use Rattle.std.proofs.Common.{◌≡◌, List, [], ◌∷◌, ◌++◌, length, drop, sym, ap, ◌∙◌}
+use Rattle.std.proofs.Common.{[], ◌∷◌, ◌++◌, length, drop, ap, ◌∙◌}
 use Rattle.sheets.specs.declared.words.Word.TheVariants.{Head}
 use Rattle.sheets.specs.Words.{bits_of}
 use Rattle.sheets.specs.Bytes.{bytes_of}

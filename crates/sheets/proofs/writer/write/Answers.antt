@@ -1,10 +1,8 @@
-use Rattle.std.proofs.Common.{◌≡◌, ℕ, ◌*◌, ◌<◌, ◌≤◌, List, ◌++◌, map, length, take, drop, Ok, sym, refl, ap, ◌∙◌, subst, arith}
+use Rattle.std.proofs.Common.{◌≡◌, ℕ, ◌*◌, length, take, drop, Ok, sym, refl, ap, ◌∙◌, arith}
 use Rattle.std.proofs.lemmas.Bool.{lt-ltb, le-ltb, cond-true, cond-false}
 use Rattle.std.proofs.lemmas.List.{take_at}
-use Rattle.sheets.specs.Bytes.{bytes_of}
-use Rattle.sheets.specs.Words.{bits_of}
 use Rattle.sheets.specs.Holdings.{sheet_at}
-use Rattle.sheets.specs.Contents.{content_of, words_of_content}
+use Rattle.sheets.specs.Contents.{content_of}
 use Rattle.sheets.specs.Writing.{bytes_for}
 use Rattle.sheets.proofs.Standing.{held_sound, held_given}
 use Rattle.sheets.proofs.Filling.{whole_length}

@@ -1,4 +1,4 @@
-use Rattle.std.proofs.Common.{◌≡◌, Result, ap, subst}
+use Rattle.std.proofs.Common.{Result, ap, subst}
 use Rattle.facts.specs.declared.refusals.Refusal.{Refusal}
 use Rattle.sources.specs.declared.kind.SourceKind.TheVariants.{Matrix}
 use Rattle.sheets.specs.declared.held.Sources.{Sources}

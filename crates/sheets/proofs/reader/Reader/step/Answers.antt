@@ -1,5 +1,4 @@
-use Rattle.std.proofs.Common.{◌≡◌, ℕ, ◌<◌, true, ◌⊎◌, None, Ok, Option, sym, ap, ◌∙◌, inl, inr, arith}
-use Rattle.facts.specs.Fields.{opponents}
+use Rattle.std.proofs.Common.{◌≡◌, ℕ, ◌<◌, ◌⊎◌, None, Ok, Option, sym, ap, ◌∙◌, inl, inr, arith}
 use Rattle.facts.specs.Amendments.{refusal_of}
 use Rattle.sources.specs.declared.kind.SourceKind.{SourceKind}
 use Rattle.sources.specs.Holding.{legal_small, met}
@@ -12,7 +11,7 @@ use Rattle.sheets.specs.Holdings.{sheet_at}
 use Rattle.sheets.specs.Judging.{judged}
 use Rattle.sheets.specs.Scanning.{awaited_from}
 use Rattle.sheets.proofs.Standing.{held_lawful, held_carries}
-use Rattle.sheets.proofs.Taking.{Taken, taken, unrefused, head_legal, head_no_row}
+use Rattle.sheets.proofs.Taking.{taken, unrefused, head_legal, head_no_row}
 use Rattle.sheets.proofs.reader.Reader.step.Goals as goal
 
 pub open-requires : goal.open-requires
