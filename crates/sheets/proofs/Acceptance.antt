@@ -1,14 +1,13 @@
 -- Bytes are accepted exactly when they are the words of a sound content. Assumes nothing.
-use Rattle.std.proofs.Common.{◌≡◌, ℕ, zero, suc, ◌+◌, ◌-◌, ◌*◌, ◌/◌, ◌%◌, ◌^◌, ◌<◌, ◌≤◌, Bool, true, false, cond, not, ◌&&◌, ◌||◌, eqb, ltb, ◌⊎◌, List, [], ◌∷◌, map, length, get_or, Some, None, Ok, Err, Option, Result, sym, refl, ap, ◌∙◌, subst, inl, inr, arith}
+use Rattle.std.proofs.Common.{◌≡◌, ℕ, zero, suc, ◌+◌, ◌*◌, ◌/◌, ◌%◌, ◌<◌, ◌≤◌, Bool, true, false, cond, not, ◌&&◌, ◌||◌, eqb, ltb, List, [], ◌∷◌, map, length, get_or, Some, None, Ok, Err, Option, Result, sym, refl, ap, ◌∙◌, subst, arith}
 use Rattle.std.specs.List.{range_with_len}
-use Rattle.std.proofs.lemmas.Bool.{and_parts, or_parts, or_from, or_cases, ltb-true, ltb-false, eqb-true, ne_eqb, eq-eqb, not-false, not_from_true, not_from_false, both_ways, cond-true, cond-false}
+use Rattle.std.proofs.lemmas.Bool.{and_parts, or_parts, or_from, ltb-true, ltb-false, eqb-true, ne_eqb, eq-eqb, not-false, not_from_true, both_ways, cond-true, cond-false}
 use Rattle.facts.specs.declared.refusals.Refusal.{Refusal}
 use Rattle.facts.specs.declared.refusals.Refusal.TheVariants.{LengthNotWords, SizeNotAllowed, SourceUnknown}
 use Rattle.facts.specs.Facts.{free, over_top}
 use Rattle.facts.specs.Fields.{legal, opponents}
-use Rattle.facts.specs.Sheets.{Sheet, SameSheet, Lawful}
+use Rattle.facts.specs.Sheets.{Sheet, SameSheet}
 use Rattle.sources.specs.Kinds.{kind_number}
-use Rattle.sources.specs.Matrices.{result}
 use Rattle.sources.specs.Orders.{ranked, plain}
 use Rattle.sources.specs.Held.{turned, uniform_sheet}
 use Rattle.sources.specs.declared.kind.SourceKind.{SourceKind}
@@ -24,16 +23,16 @@ use Rattle.sheets.specs.Words.{Fitting, bits_of, word_of}
 use Rattle.sheets.specs.Bytes.{bytes_of, words_of}
 use Rattle.sheets.specs.Places.{has_row}
 use Rattle.sheets.specs.Holdings.{plain_sheet, sheet_at}
-use Rattle.sheets.specs.Contents.{Content, Sound, carries_of, sheet_of, price_word, row_for, row_at, joined, gathered, rows_of, words_of_content, Says}
-use Rattle.sheets.specs.Judging.{sourced, judged_head, judged}
+use Rattle.sheets.specs.Contents.{Content, Sound, carries_of, sheet_of, row_for, row_at, joined, gathered, rows_of, words_of_content, Says}
+use Rattle.sheets.specs.Judging.{sourced, judged_head}
 use Rattle.sheets.specs.Scanning.{Progress, opening, advanced_by, scanned}
 use Rattle.sheets.specs.Reading.{read_of, answer_of, Left}
 use Rattle.sheets.proofs.Alike.{alike, unlike}
 use Rattle.sheets.proofs.Encoding.{Proper, word_back, bits_small, bits_back, Small, words_back, bytes_back, words_small}
 use Rattle.sheets.proofs.Written.{bytes_length}
-use Rattle.sheets.proofs.Soundness.{Good, Blank, after, Read-off, read_off}
-use Rattle.sheets.proofs.Completeness.{content, partly, at_first, at_last, plain_weaker, Ends, read_through}
-use Rattle.sheets.proofs.Taking.{due, head_no_row}
+use Rattle.sheets.proofs.Soundness.{Good, Blank, after, read_off}
+use Rattle.sheets.proofs.Completeness.{content, at_first, at_last, plain_weaker, read_through}
+use Rattle.sheets.proofs.Taking.{head_no_row}
 
 -- each of a list of words
 abbrev pub Each : (Word → Type 0) → List Word → Type 0

@@ -1,5 +1,5 @@
 -- Two sheets that nothing tells apart are equal. Assumes nothing.
-use Rattle.std.proofs.Common.{◌≡◌, ℕ, ◌+◌, ◌*◌, Bool, Option, sym, refl, ap, ◌∙◌}
+use Rattle.std.proofs.Common.{◌≡◌, ℕ, Bool, Option, refl, ap, ◌∙◌}
 use mathlib.Core.Path.{fun_ext}
 use Rattle.facts.specs.Sheets.{Sheet, SameSheet}
 use Rattle.sources.specs.declared.kind.SourceKind.{SourceKind}

@@ -1,32 +1,32 @@
 -- The words of a sound content are accepted. Assumes nothing.
-use Rattle.std.proofs.Common.{◌≡◌, ℕ, zero, suc, ◌+◌, ◌-◌, ◌*◌, ◌/◌, ◌%◌, ◌<◌, ◌≤◌, min, max, Bool, true, false, cond, not, ◌&&◌, ◌||◌, eqb, ltb, ◌⊎◌, List, [], ◌∷◌, map, Some, None, Ok, Err, Option, Result, sym, refl, ap, ◌∙◌, subst, inl, inr, arith}
+use Rattle.std.proofs.Common.{◌≡◌, ℕ, zero, suc, ◌+◌, ◌-◌, ◌*◌, ◌/◌, ◌%◌, ◌<◌, ◌≤◌, min, max, Bool, true, false, cond, not, ◌&&◌, ◌||◌, eqb, ltb, ◌⊎◌, Some, None, Ok, Err, Option, Result, sym, refl, ap, ◌∙◌, subst, inl, inr, arith}
 use Rattle.std.specs.List.{range_with_len}
-use Rattle.std.proofs.lemmas.Bool.{and_parts, and_from, and_left, or_parts, or_cases, or_right, or_from, ltb-true, ltb-false, lt-ltb, le-ltb, eqb-true, eqb-false, eq-eqb, ne_eqb, not-true, not_from_true, both_ways, cond-true, cond-false, cases_eq, cases_lt}
+use Rattle.std.proofs.lemmas.Bool.{and_parts, and_from, and_left, or_right, or_from, ltb-true, lt-ltb, le-ltb, eqb-true, eq-eqb, ne_eqb, not_from_true, both_ways, cond-true, cond-false, cases_eq, cases_lt}
 use Rattle.std.proofs.lemmas.Bool.Decides.{nat_tests}
 use Rattle.facts.specs.declared.refusals.Refusal.{Refusal}
-use Rattle.facts.specs.declared.refusals.Refusal.TheVariants.{EntrantsImpossible, EntrantsNotAwaited, PriceNotAllowed, SecondPriceNotFree, WordCountWrong}
-use Rattle.facts.specs.Facts.{free, over_top, one_free}
+use Rattle.facts.specs.declared.refusals.Refusal.TheVariants.{WordCountWrong}
+use Rattle.facts.specs.Facts.{free, over_top}
 use Rattle.facts.specs.Fields.{legal, opponents}
-use Rattle.facts.specs.Sheets.{Sheet, SameSheet, amended}
+use Rattle.facts.specs.Sheets.{Sheet, amended}
 use Rattle.sources.specs.Matrices.{certain}
 use Rattle.sources.specs.Orders.{ranked, plain}
 use Rattle.sources.specs.Held.{turned}
 use Rattle.sources.specs.declared.kind.SourceKind.{SourceKind}
 use Rattle.sources.specs.declared.kind.SourceKind.TheVariants.{Matrix, Order, Bribes}
-use Rattle.sources.specs.Holding.{legal_small, met, meets, met_back}
+use Rattle.sources.specs.Holding.{legal_small, met, met_back}
 use Rattle.sheets.specs.declared.misread.Misread.{Misread}
 use Rattle.sheets.specs.declared.words.Word.{Word}
-use Rattle.sheets.specs.declared.words.Word.TheVariants.{Head, Price, Upset, Outcome, Stray}
+use Rattle.sheets.specs.declared.words.Word.TheVariants.{Upset, Outcome}
 use Rattle.sheets.specs.declared.rows.Said.{Said}
-use Rattle.sheets.specs.declared.rows.Said.TheVariants.{Head as field, Row as row}
-use Rattle.sheets.specs.Places.{has_row, next_row}
+use Rattle.sheets.specs.declared.rows.Said.TheVariants.{Row as row}
+use Rattle.sheets.specs.Places.{has_row}
 use Rattle.sheets.specs.Holdings.{plain_sheet}
 use Rattle.sheets.specs.Contents.{Content, Sound, carries_of, sheet_of, price_word, row_for, row_at, joined, gathered}
-use Rattle.sheets.specs.Judging.{read_fact, judged, judged_outcome, judged_upset, judged_price}
+use Rattle.sheets.specs.Judging.{judged, judged_outcome, judged_upset, judged_price}
 use Rattle.sheets.specs.Scanning.{Progress, outcome_at, price_at, awaited_from, advanced_by, complete, scanned}
 use Rattle.sheets.proofs.Alike.{alike}
 use Rattle.sheets.proofs.Stepping.{next_at, next_none}
-use Rattle.sheets.proofs.Taking.{due, place_parts}
+use Rattle.sheets.proofs.Taking.{due}
 use Rattle.sheets.proofs.Soundness.{after}
 
 -- the place of the row that tells what it takes for the first of two to win

@@ -1,7 +1,7 @@
 -- Words that a reader accepts are the words of a sound content. Assumes nothing.
-use Rattle.std.proofs.Common.{◌≡◌, ℕ, zero, suc, ◌+◌, ◌-◌, ◌*◌, ◌/◌, ◌%◌, ◌<◌, ◌≤◌, Bool, true, false, cond, not, ◌&&◌, ◌||◌, eqb, ltb, ◌⊎◌, List, [], ◌∷◌, map, Some, None, Ok, Err, filter, Option, Result, sym, refl, ap, ◌∙◌, subst, inl, inr, arith}
+use Rattle.std.proofs.Common.{◌≡◌, ℕ, ◌+◌, ◌-◌, ◌*◌, ◌/◌, ◌%◌, ◌<◌, ◌≤◌, Bool, true, false, cond, ◌&&◌, eqb, ltb, List, [], ◌∷◌, Some, None, Ok, Err, Option, Result, sym, refl, ap, ◌∙◌, subst, arith}
 use Rattle.std.specs.List.{range_with_len}
-use Rattle.std.proofs.lemmas.Bool.{and_parts, and_from, and_left, or_parts, ltb-true, eqb-true, eq-eqb, ne_eqb, both_ways, cond-true, cond-false, cases_Bool, cases_eq}
+use Rattle.std.proofs.lemmas.Bool.{and_parts, and_from, and_left, or_parts, ltb-true, eqb-true, eq-eqb, ne_eqb, both_ways, cond-true, cond-false}
 use Rattle.facts.specs.declared.refusals.Refusal.{Refusal}
 use Rattle.facts.specs.declared.refusals.Refusal.TheVariants.{WordCountWrong}
 use Rattle.facts.specs.Facts.{free, over_top}
@@ -13,16 +13,15 @@ use Rattle.sources.specs.Holding.{legal_small, met, met_back}
 use Rattle.sources.specs.Lawfulness.{certain_back, ranked_back, or_back}
 use Rattle.sheets.specs.declared.misread.Misread.{Misread}
 use Rattle.sheets.specs.declared.words.Word.{Word}
-use Rattle.sheets.specs.declared.rows.Awaited.{Awaited}
 use Rattle.sheets.specs.declared.rows.Awaited.TheVariants.{Head as aHead}
 use Rattle.sheets.specs.declared.rows.Said.{Said}
 use Rattle.sheets.specs.declared.rows.Said.TheVariants.{Head as field, Row as row}
-use Rattle.sheets.specs.Places.{has_row, first_of, next_row}
+use Rattle.sheets.specs.Places.{has_row, next_row}
 use Rattle.sheets.specs.Contents.{carries_of, row_for, row_at, gathered}
 use Rattle.sheets.specs.Judging.{judged}
-use Rattle.sheets.specs.Scanning.{Progress, outcome_at, price_at, awaited_from, advanced_by, stepped, complete, scanned}
+use Rattle.sheets.specs.Scanning.{Progress, outcome_at, price_at, awaited_from, advanced_by, complete, scanned}
 use Rattle.sheets.proofs.Stepping.{none_found, gathered_none, gathered_at}
-use Rattle.sheets.proofs.Taking.{due, Left-alone, Taken, taken, place_parts, head_legal, carried_free}
+use Rattle.sheets.proofs.Taking.{due, Left-alone, Taken, taken, place_parts, head_legal}
 
 -- the beats of a sheet at a place
 abbrev pub at : Sheet → ℕ → Option ℕ

@@ -2,7 +2,7 @@
 use Rattle.std.proofs.Common.{◌≡◌, ℕ, Bool, true, false, cond, None, Option, sym, refl, ◌∙◌}
 use Rattle.std.proofs.lemmas.Bool.{cond-true, cond-false}
 use Rattle.facts.specs.Fields.{opponents}
-use Rattle.facts.specs.Sheets.{Sheet, Lawful, SameSheet}
+use Rattle.facts.specs.Sheets.{Lawful, SameSheet}
 use Rattle.sources.specs.declared.kind.SourceKind.{SourceKind}
 use Rattle.sources.specs.declared.kind.SourceKind.TheVariants.{Matrix, Order, Bribes}
 use Rattle.sources.specs.Lawfulness.{matrix_lawful, order_lawful, bribes_lawful, matrix_carries_own, order_carries_own, bribes_carry_own}

@@ -1,13 +1,13 @@
 -- What an accepted row tells. Assumes nothing.
-use Rattle.std.proofs.Common.{◌≡◌, ℕ, zero, suc, ◌+◌, ◌-◌, ◌*◌, ◌/◌, ◌%◌, ◌<◌, ◌≤◌, Bool, true, false, cond, not, ◌&&◌, ◌||◌, eqb, ltb, ◌⊎◌, List, [], ◌∷◌, Some, None, Ok, Err, Option, Result, sym, refl, ap, ◌∙◌, subst, inl, inr, arith}
-use Rattle.std.proofs.lemmas.Bool.{and_parts, and_from, or_parts, or_from, not-false, not_from_false, ltb-false, lt-ltb, le-ltb, eqb-true, eqb-false, ne_eqb, both_ways, or_left, or_right}
+use Rattle.std.proofs.Common.{◌≡◌, ℕ, ◌+◌, ◌-◌, ◌*◌, ◌/◌, ◌%◌, ◌<◌, ◌≤◌, Bool, true, false, cond, not, ◌&&◌, ◌||◌, eqb, ltb, ◌⊎◌, Some, None, Ok, Err, Option, Result, sym, refl, ap, ◌∙◌, subst, inl, inr, arith}
+use Rattle.std.proofs.lemmas.Bool.{and_parts, and_from, or_parts, or_from, not-false, not_from_false, ltb-false, lt-ltb, eqb-true, ne_eqb, both_ways, or_left, or_right}
 use Rattle.facts.specs.declared.refusals.Refusal.{Refusal}
 use Rattle.facts.specs.declared.refusals.Refusal.TheVariants.{SizeNotAllowed, SourceUnknown, EntrantsImpossible, EntrantsNotAwaited, PriceNotAllowed, SecondPriceNotFree, EntrantUnknown, EntrantsEqual, PriceAboveTop, NeitherSideFree, PairingNotCarried}
 use Rattle.facts.specs.Facts.{free, over_top, one_free}
 use Rattle.facts.specs.Fields.{legal, opponents}
 use Rattle.facts.specs.Sheets.{Sheet}
-use Rattle.facts.specs.Amendments.{refusal_of, first_refusal}
-use Rattle.sources.specs.Orders.{ranked, plain}
+use Rattle.facts.specs.Amendments.{refusal_of}
+use Rattle.sources.specs.Orders.{plain}
 use Rattle.sources.specs.Held.{turned}
 use Rattle.sources.specs.declared.kind.SourceKind.{SourceKind}
 use Rattle.sources.specs.declared.kind.SourceKind.TheVariants.{Matrix, Order, Bribes}
@@ -18,11 +18,11 @@ use Rattle.sheets.specs.declared.rows.Awaited.{Awaited}
 use Rattle.sheets.specs.declared.rows.Awaited.TheVariants.{Head as aHead, Outcome as anOutcome, Upset as anUpset, Price as aPrice, Nothing as nothing}
 use Rattle.sheets.specs.declared.rows.Said.{Said}
 use Rattle.sheets.specs.declared.rows.Said.TheVariants.{Head as field, Row as row}
-use Rattle.sheets.specs.Places.{has_row, first_of, next_row}
-use Rattle.sheets.specs.Contents.{carries_of, price_word, row_for}
-use Rattle.sheets.specs.Judging.{read_fact, sourced, judged_head, judged_outcome, judged_upset, judged_price, judged}
+use Rattle.sheets.specs.Places.{has_row, next_row}
+use Rattle.sheets.specs.Contents.{carries_of, row_for}
+use Rattle.sheets.specs.Judging.{read_fact, sourced, judged_head, judged_upset, judged}
 use Rattle.sheets.specs.Scanning.{outcome_at, price_at, awaited_from}
-use Rattle.sheets.proofs.Stepping.{First, first_found, none_found}
+use Rattle.sheets.proofs.Stepping.{First, first_found}
 
 -- a sheet of this kind must have a row at the place
 abbrev pub due : SourceKind → ℕ → ℕ → Bool

@@ -4,7 +4,6 @@ use Rattle.facts.specs.declared.refusals.Refusal.{Refusal}
 use Rattle.facts.specs.declared.refusals.Refusal.TheVariants.{NotAHead, SizeNotAllowed, SourceUnknown, WordNotAwaited, EntrantsImpossible, EntrantsNotAwaited, PriceNotAllowed, SecondPriceNotFree, WordCountWrong}
 use Rattle.facts.specs.Facts.{free}
 use Rattle.facts.specs.Fields.{legal, opponents}
-use Rattle.sources.specs.declared.kind.SourceKind.{SourceKind}
 use Rattle.sources.specs.declared.kind.SourceKind.TheVariants.{Matrix, Order, Bribes}
 use Rattle.sheets.specs.declared.words.Word.{Word}
 use Rattle.sheets.specs.declared.words.Word.TheVariants.{Head, Price, Upset, Outcome, Stray}

@@ -1,7 +1,7 @@
 -- What a reader answers and leaves.
-use Rattle.std.specs.Prelude.{◌≡◌, ℕ, ◌%◌, Bool, cond, not, ◌||◌, List, map, length, Ok, Err, Result, ◌==◌}
+use Rattle.std.specs.Prelude.{◌≡◌, ℕ, ◌%◌, cond, not, ◌||◌, List, map, length, Ok, Err, Result, ◌==◌}
 use Rattle.facts.specs.declared.refusals.Refusal.TheVariants.{LengthNotWords}
-use Rattle.facts.specs.Sheets.{Sheet, SameSheet}
+use Rattle.facts.specs.Sheets.{SameSheet}
 use Rattle.sources.specs.declared.kind.SourceKind.{SourceKind}
 use Rattle.sheets.specs.declared.misread.Misread.{Misread}
 use Rattle.sheets.specs.declared.held.Sources.{Sources}

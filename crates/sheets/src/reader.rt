@@ -15,7 +15,7 @@ ghost use Rattle.sheets.specs.Reading.{read_of, answer_of, Left};
 
 use crate::held::Sources;
 use crate::misread::Misread;
-use crate::rows::{Awaited, Said, judge, next_row_lem};
+use crate::rows::{Awaited, Said, judge, next_row};
 use crate::words::{Word, word_of};
 use facts::prices::Fact;
 use facts::refusals::Refusal;
@@ -36,14 +36,14 @@ fn awaited_from(kind: SourceKind, drafts: &Sources, from: usize) -> Awaited
     let size = drafts.size(kind);
     match kind {
         SourceKind::Order => Awaited::Upset { from },
-        SourceKind::Matrix => match next_row_lem(kind, size, from) {
+        SourceKind::Matrix => match next_row(kind, size, from) {
             Some(place) => Awaited::Outcome {
                 lower: place / 16,
                 higher: place % 16,
             },
             None => Awaited::Nothing,
         },
-        SourceKind::Bribes => match next_row_lem(kind, size, from) {
+        SourceKind::Bribes => match next_row(kind, size, from) {
             Some(place) => {
                 let (winner, loser) = (place / 16, place % 16);
                 let (_, other) = drafts.pairing(kind, winner, loser);

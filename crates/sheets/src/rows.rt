@@ -59,7 +59,7 @@ pub(crate) fn has_row(kind: SourceKind, size: usize, place: usize) -> bool
     }
 }
 
-pub(crate) fn next_row_lem(kind: SourceKind, size: usize, from: usize) -> Option<usize>
+pub(crate) fn next_row(kind: SourceKind, size: usize, from: usize) -> Option<usize>
     ensures { result ≡ next_row kind size from }
 {
     for place in from..PLACES {

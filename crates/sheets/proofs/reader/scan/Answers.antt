@@ -22,20 +22,20 @@ returns-in-Err c =
     let i = c.loop-index.index in
     let bytes = c.args.bytes.now in
     ended_refused _ _
-    (c.loop-index.invariant.1 ∙ take_up p bytes i c.word-of.result c.loop-index-test.true (c.word-of.ensures ∙ ap word_of c.word-at.ensures)
-    ∙ stopped p c.word-of.result (rest bytes (i + 1)) i c.in-Err.refusal c.step.new.self c.in-Err.ensures)
+    (c.loop-index.invariant.1 ∙ take_up p bytes i c.word_of.result c.loop-index-test.true (c.word_of.ensures ∙ ap word_of c.word_at.ensures)
+    ∙ stopped p c.word_of.result (rest bytes (i + 1)) i c.in-Err.refusal c.step.new.self c.in-Err.ensures)
 
 pub loop-index-preserved : goal.loop-index-preserved
 loop-index-preserved c =
     let p = progress_of c.loop-index.reader in
     let i = c.loop-index.index in
     let bytes = c.args.bytes.now in
-    let t = onward p c.word-of.result (rest bytes (i + 1)) i c.step.new.self c.in-default.ensures in
-    (t.1, c.loop-index.invariant.1 ∙ take_up p bytes i c.word-of.result c.loop-index-test.true (c.word-of.ensures ∙ ap word_of c.word-at.ensures) ∙ t.0)
+    let t = onward p c.word_of.result (rest bytes (i + 1)) i c.step.new.self c.in_default.ensures in
+    (t.1, c.loop-index.invariant.1 ∙ take_up p bytes i c.word_of.result c.loop-index-test.true (c.word_of.ensures ∙ ap word_of c.word_at.ensures) ∙ t.0)
 
 pub returns : goal.returns
 returns c =
     let i = c.loop-index.index in
     let bytes = c.args.bytes.now in
     let end : i ≡ length bytes / 4 = omega arith in
-    ended_complete _ c.loop-index.reader i (c.loop-index.invariant.1 ∙ ap (λ ws. scanned (progress_of c.loop-index.reader) (map word_of ws) i) (words_end (word_at bytes) i (length bytes / 4) end)) (sym c.if-not-is-complete.ensures)
+    ended_complete _ c.loop-index.reader i (c.loop-index.invariant.1 ∙ ap (λ ws. scanned (progress_of c.loop-index.reader) (map word_of ws) i) (words_end (word_at bytes) i (length bytes / 4) end)) (sym c.if-not-is_complete.ensures)

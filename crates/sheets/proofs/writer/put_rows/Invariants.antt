@@ -1,4 +1,4 @@
-use Rattle.std.proofs.Common.{◌≡◌, ◌+◌, ◌++◌, map, length, take}
+use Rattle.std.proofs.Common.{◌≡◌, ◌++◌, map, length, take}
 use Rattle.std.specs.List.{range_with_len}
 use Rattle.sheets.specs.Words.{bits_of}
 use Rattle.sheets.specs.Bytes.{bytes_of}

@@ -11,4 +11,4 @@ four start bits buffer part h =
     ∙ ap (λ xs. take start buffer ++ (bytes_of (bits ∷ []) ++ xs)) (drop-drop 4 start buffer)
 
 pub returns : goal.returns
-returns c = four c.args.start c.args.bits c.args.buffer.now c.copy-from-slice.new.self (c.copy-from-slice.ensures.after ∙ c.to-le-bytes.ensures)
+returns c = four c.args.start c.args.bits c.args.buffer.now c.copy_from_slice.new.self (c.copy_from_slice.ensures.after ∙ c.to_le_bytes.ensures)

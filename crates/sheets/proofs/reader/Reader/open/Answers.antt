@@ -6,6 +6,6 @@ use Rattle.sheets.proofs.reader.Reader.open.Goals as goal
 pub returns : goal.returns
 returns c =
     let k = c.args.kind in
-    let after = sheet_at k c.in-ok-self.field-0 in
+    let after = sheet_at k c.in_ok-self.field-0 in
     let new = plain_sheet k c.args.size in
-    (refl, same_progress k after new 0 c.awaited-from-self.result c.awaited-from-self.ensures (alike after new (c.in-ok-self.ensures.each-is-plain-or-the-size-is-refused.1 k)))
+    (refl, same_progress k after new 0 c.awaited_from-self.result c.awaited_from-self.ensures (alike after new (c.in_ok-self.ensures.each_is_plain_or_the_size_is_refused.1 k)))

@@ -10,4 +10,4 @@ returns c =
     let before = sheet_at s.kind s.drafts in
     let after = sheet_at s.kind c.amend.new.self in
     let new = amended before c.args.first c.args.second c.args.facts in
-    (refl, same_progress s.kind after new (c.args.first * 16 + c.args.second + 1) c.awaited-from-self.result c.awaited-from-self.ensures (alike after new (c.amend.ensures.accepted c.requires.0)))
+    (refl, same_progress s.kind after new (c.args.first * 16 + c.args.second + 1) c.awaited_from-self.result c.awaited_from-self.ensures (alike after new (c.amend.ensures.accepted c.requires.0)))

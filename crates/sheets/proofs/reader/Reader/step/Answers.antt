@@ -1,5 +1,4 @@
-use Rattle.std.proofs.Common.{◌≡◌, ℕ, ◌<◌, true, ◌⊎◌, None, Ok, Option, sym, ap, ◌∙◌, inl, inr, arith}
-use Rattle.facts.specs.Fields.{opponents}
+use Rattle.std.proofs.Common.{◌≡◌, ℕ, ◌<◌, ◌⊎◌, None, Ok, Option, sym, ap, ◌∙◌, inl, inr, arith}
 use Rattle.facts.specs.Amendments.{refusal_of}
 use Rattle.sources.specs.declared.kind.SourceKind.{SourceKind}
 use Rattle.sources.specs.Holding.{legal_small, met}
@@ -12,12 +11,12 @@ use Rattle.sheets.specs.Holdings.{sheet_at}
 use Rattle.sheets.specs.Judging.{judged}
 use Rattle.sheets.specs.Scanning.{awaited_from}
 use Rattle.sheets.proofs.Standing.{held_lawful, held_carries}
-use Rattle.sheets.proofs.Taking.{Taken, taken, unrefused, head_legal, head_no_row}
+use Rattle.sheets.proofs.Taking.{taken, unrefused, head_legal, head_no_row}
 use Rattle.sheets.proofs.reader.Reader.step.Goals as goal
 
 pub open-requires : goal.open-requires
 open-requires c =
-    (head_legal c.size-size.result c.in-Head.size c.in-Head.kind c.args.self.now.awaited c.args.word (sym c.in-ok-size.ensures ∙ ap Ok c.in-Head.is)).1
+    (head_legal c.size-size.result c.in-Head.size c.in-Head.kind c.args.self.now.awaited c.args.word (sym c.in_ok-size.ensures ∙ ap Ok c.in-Head.is)).1
 
 allowed : (k : SourceKind) (s : Sources) (x : Awaited) (word : Word) (a b : ℕ) (facts : Option ℕ × Option ℕ) → (x ≡ Head) ⊎ ((from : ℕ) × (x ≡ awaited_from k (sheet_at k s) from))
     → judged (sheet_at k s).size x word ≡ Ok (row a b facts) → (refusal_of (sheet_at k s) a b facts ≡ None) × ((a < 16) × (b < 16))
@@ -32,4 +31,4 @@ pub put-requires : goal.put-requires
 put-requires c =
     let s = c.args.self.now in
     allowed s.kind s.drafts s.awaited c.args.word c.in-Row.first c.in-Row.second c.in-Row.facts c.requires
-    (ap (λ n. judged n s.awaited c.args.word) (sym c.size-size.ensures.is-the-size-of-that-kind) ∙ sym c.in-ok-size.ensures ∙ ap Ok c.in-Row.is)
+    (ap (λ n. judged n s.awaited c.args.word) (sym c.size-size.ensures.is_the_size_of_that_kind) ∙ sym c.in_ok-size.ensures ∙ ap Ok c.in-Row.is)
