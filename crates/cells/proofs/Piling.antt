@@ -12,7 +12,7 @@ use Rattle.figures.specs.Sets.{has, Lowest, half, members, halves}
 use Rattle.figures.proofs.Bits.{bit, bit_zero, bit_suc, part_le, half_parts}
 use Rattle.cells.specs.Standing.{holding}
 use Rattle.cells.specs.Walks.{ahead}
-use Rattle.cells.specs.Splits.{of_size, by_halves_with, lost_to, won}
+use Rattle.cells.specs.Splits.{of_size, by_halves_with, lost_to, won, won_of_split}
 use Rattle.cells.proofs.Lowering.{off_itself, off_other, has_none}
 use Rattle.cells.proofs.Splitting.{taken_out, splits}
 use Rattle.cells.proofs.Adding.{none_off, one_off, all_off}
@@ -58,15 +58,23 @@ module _ {V M : Type 0} (A : Semiring M) (means : V → M) (f : ℕ → M) (s : 
       then w h (inl q) = absurd (both_ways (has (bit_and left (left - 1)) w) (ap (has (bit_and left (left - 1))) q ∙ off_itself left t low) h)
       then w h (inr q) = other w q ∙ p.due w (sym (off_other left t low w q) ∙ h)
 
--- what w has of a split, by the side that holds him
+-- what w has from a half that holds him, from one that does not, and of a split
 module _ {M : Type 0} (A : Semiring M) (L : LawfulSemiring A) (weight : ℕ → ℕ → M) (n : ℕ) (f : ℕ → ℕ → M) where
   pub won_in : (a rest w : ℕ) → true ≡ has a w → A.times (f a w) (lost_to A weight n f rest w) ≡ won A weight n f a rest w
   unfolding won
   won_in a rest w h = taken_out A L weight n f a rest w ∙ sym (cond-true (has a w) _ _ (sym h))
 
-  pub won_out : (a rest w : ℕ) → false ≡ has a w → A.times (f rest w) (lost_to A weight n f a w) ≡ won A weight n f a rest w
+  pub won_out : (a rest w : ℕ) → false ≡ has a w → won A weight n f a rest w ≡ A.nothing
   unfolding won
-  won_out a rest w h = taken_out A L weight n f rest a w ∙ sym (cond-false (has a w) _ _ (sym h))
+  won_out a rest w h = cond-false (has a w) _ _ (sym h)
+
+  pub won_of_his_side : (a rest w : ℕ) → true ≡ has a w → won A weight n f a rest w ≡ won_of_split A weight n f a rest w
+  unfolding won_of_split
+  won_of_his_side a rest w h = sym (cond-true (has a w) _ _ (sym h))
+
+  pub won_of_other_side : (a rest w : ℕ) → false ≡ has a w → won A weight n f rest a w ≡ won_of_split A weight n f a rest w
+  unfolding won_of_split
+  won_of_other_side a rest w h = sym (cond-false (has a w) _ _ (sym h))
 
 -- ---- the lowest member
 
@@ -108,7 +116,7 @@ module _ {V M : Type 0} (A : Semiring M) (means : V → M) where
 module _ {M : Type 0} (A : Semiring M) (weight : ℕ → ℕ → M) (n : ℕ) (f : ℕ → ℕ → M) (s : ℕ) where
   -- the value of each member, with what is ahead, is what all splits give
   abbrev pub Along : {V : Type 0} → (V → M) → List V → List ℕ → Type 0
-  Along means sums left = (w : ℕ) → has s w ≡ true → A.plus (at A means sums w) (over A left (λ a. won A weight n f a (s - a) w)) ≡ by_halves_with A weight n f s w
+  Along means sums left = (w : ℕ) → has s w ≡ true → A.plus (at A means sums w) (over A left (λ a. won_of_split A weight n f a (s - a) w)) ≡ by_halves_with A weight n f s w
 
 module _ {V M : Type 0} (A : Semiring M) (L : LawfulSemiring A) (means : V → M) (weight : ℕ → ℕ → M) (n : ℕ) (f : ℕ → ℕ → M) (s : ℕ) where
   pub along_none : (o : ℕ) (v : V) (left : List ℕ) → has s o ≡ true → means v ≡ A.nothing → left ≡ halves (of_size n) s o → Along A weight n f s means (replicate 16 v) left
@@ -116,10 +124,10 @@ module _ {V M : Type 0} (A : Semiring M) (L : LawfulSemiring A) (means : V → M
       none_off A L (at A means (replicate 16 v) w) left (halves (of_size n) s o) _ (all_nothing A means 16 w v e) q ∙ splits A L weight n f s o w h k
 
   pub along_more : (a rest k : ℕ) (xs zs : List V) (left more : List ℕ) → rest ≡ s - a → k ≡ 0 → left ≡ a ∷ more → Along A weight n f s means xs left
-      → Piled A means (won A weight n f a rest) s k xs zs → Along A weight n f s means zs more
+      → Piled A means (won_of_split A weight n f a rest) s k xs zs → Along A weight n f s means zs more
   along_more a rest k xs zs left more r z e h p w l =
       one_off A L (at A means xs w) (at A means zs w) a left more _ e
-      (p.done w l (has_none k w z) ∙ ap (λ (x : ℕ). A.plus (at A means xs w) (won A weight n f a x w)) r)
+      (p.done w l (has_none k w z) ∙ ap (λ (x : ℕ). A.plus (at A means xs w) (won_of_split A weight n f a x w)) r)
       ∙ h w l
 
   pub along_all : (xs : List V) (left : List ℕ) → left ≡ [] → Along A weight n f s means xs left → (w : ℕ) → has s w ≡ true → at A means xs w ≡ by_halves_with A weight n f s w

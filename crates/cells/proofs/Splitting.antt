@@ -9,7 +9,7 @@ use Rattle.figures.proofs.Sums.{when, over_same, over_same_in, over_kept, over_p
 use Rattle.figures.proofs.Lists.{counting_in}
 use Rattle.figures.proofs.Bits.{half_parts, part_le, half_rest, has_rest}
 use Rattle.figures.proofs.Champions.{halves_in}
-use Rattle.cells.specs.Splits.{of_size, meeting, by_halves_with, lost_to, won}
+use Rattle.cells.specs.Splits.{of_size, meeting, by_halves_with, lost_to, won, won_of_split}
 
 module _ {M : Type 0} (A : Semiring M) (L : LawfulSemiring A) where
   -- the winner's cell taken out of the product
@@ -57,31 +57,30 @@ module _ {M : Type 0} (A : Semiring M) (L : LawfulSemiring A) where
         ∙ sym (over_plus A L all _ _)
         ∙ over_same A all _ _ (λ a. joined (half s a) (has a o) (H a))
 
-  -- what w has from a against the rest: nothing where he is not in a
-  from_side : (ℕ → ℕ → M) → ℕ → (ℕ → ℕ → M) → ℕ → ℕ → ℕ → M
-  from_side weight n f a rest w = cond (has a w) (meeting A weight n f a rest w) A.nothing
-
   -- of the two sides, one holds w
   one_side : (weight : ℕ → ℕ → M) (n : ℕ) (f : ℕ → ℕ → M) (s a w : ℕ) → half s a ≡ true → has s w ≡ true
-      → won A weight n f a (s - a) w ≡ A.plus (from_side weight n f a (s - a) w) (from_side weight n f (s - a) (s - (s - a)) w)
-  unfolding won from_side
+      → won_of_split A weight n f a (s - a) w ≡ A.plus (won A weight n f a (s - a) w) (won A weight n f (s - a) (s - (s - a)) w)
+  unfolding won_of_split won
   one_side weight n f s a w h k =
       let p = (half_parts s a h).0 in
       let l = part_le a s p in
       let back : a ≡ s - (s - a) = omega arith in
-      go (has a w) ∙ ap₂ (λ b (c : ℕ). A.plus (from_side weight n f a (s - a) w) (cond b (meeting A weight n f (s - a) c w) A.nothing)) (sym (has_rest s a w p k)) back
+      let side : Bool → ℕ → M = λ b (c : ℕ). cond b (meeting A weight n f (s - a) c w) A.nothing in
+      ap (λ b. cond (has a w) (won A weight n f a (s - a) w) (side b a)) (has_rest s a w p k)
+      ∙ go (has a w)
+      ∙ ap₂ (λ b (c : ℕ). A.plus (won A weight n f a (s - a) w) (side b c)) (sym (has_rest s a w p k)) back
     where
-      go : (b : Bool) → cond b (meeting A weight n f a (s - a) w) (meeting A weight n f (s - a) a w)
+      go : (b : Bool) → cond b (cond b (meeting A weight n f a (s - a) w) A.nothing) (cond (not b) (meeting A weight n f (s - a) a w) A.nothing)
           ≡ A.plus (cond b (meeting A weight n f a (s - a) w) A.nothing) (cond (not b) (meeting A weight n f (s - a) a w) A.nothing)
       go true = sym (plus_nothing_r A L (meeting A weight n f a (s - a) w))
       go false = sym (L.plus_nothing (meeting A weight n f (s - a) a w))
 
   -- the splits give the sums
   pub splits : (weight : ℕ → ℕ → M) (n : ℕ) (f : ℕ → ℕ → M) (s o w : ℕ) → has s o ≡ true → has s w ≡ true
-      → over A (halves (of_size n) s o) (λ a. won A weight n f a (s - a) w) ≡ by_halves_with A weight n f s w
-  unfolding by_halves_with from_side halves when
+      → over A (halves (of_size n) s o) (λ a. won_of_split A weight n f a (s - a) w) ≡ by_halves_with A weight n f s w
+  unfolding by_halves_with won halves when
   splits weight n f s o w h k =
       over_same_in A (halves (of_size n) s o) _ _ (λ a i. one_side weight n f s a w (halves_in (of_size n) s o a i).0 k)
-      ∙ both_sides n s o h (λ a. from_side weight n f a (s - a) w)
+      ∙ both_sides n s o h (λ a. won A weight n f a (s - a) w)
       ∙ over_same A (range_with_len 0 (suc s)) _ _ (λ a. sym (when_both A L (half s a) (has a w) (meeting A weight n f a (s - a) w)))
       ∙ sym (over_kept A L (λ a. half s a && has a w) (range_with_len 0 (suc s)) (λ a. meeting A weight n f a (s - a) w))

@@ -27,6 +27,10 @@ module _ {M : Type 0} (A : Semiring M) where
   unfoldable pub lost_to : (ℕ → ℕ → M) → ℕ → (ℕ → ℕ → M) → ℕ → ℕ → M
   lost_to weight n cells rest w = over A (members (of_size n) rest) λ b. A.times (cells rest b) (weight w b)
 
-  -- what w has of a set split in two: he comes out of a where it holds him, and else out of the rest
+  -- what w has from a against the rest: nothing where w is not in a
   unfoldable pub won : (ℕ → ℕ → M) → ℕ → (ℕ → ℕ → M) → ℕ → ℕ → ℕ → M
-  won weight n cells a rest w = cond (has a w) (meeting weight n cells a rest w) (meeting weight n cells rest a w)
+  won weight n cells a rest w = cond (has a w) (meeting weight n cells a rest w) A.nothing
+
+  -- what w has of a set split in two: he comes out of a where it holds him, and else out of the rest
+  unfoldable pub won_of_split : (ℕ → ℕ → M) → ℕ → (ℕ → ℕ → M) → ℕ → ℕ → ℕ → M
+  won_of_split weight n cells a rest w = cond (has a w) (won weight n cells a rest w) (won weight n cells rest a w)

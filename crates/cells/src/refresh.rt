@@ -2,7 +2,7 @@
 ghost use Rattle.std.specs.Prelude.{◌≡◌, ◌+◌, ◌*◌, ◌^◌, ◌<◌, ◌≤◌, map, length};
 ghost use Rattle.figures.specs.Sets.{has, Lowest};
 ghost use Rattle.cells.specs.Renewal.{Room, cell_of, weight_of, Renewal, of_set, wanted, Refreshed};
-ghost use Rattle.cells.specs.Splits.{lost_to, won, sum_of};
+ghost use Rattle.cells.specs.Splits.{lost_to, won, won_of_split, sum_of};
 
 use crate::halves::Halves;
 use crate::place::index_of;
@@ -52,9 +52,8 @@ pub(crate) fn beaten<V: Algebra>(cells: &[V], grid: &[V], n: usize, rest: u32, w
     sum
 }
 
-// What a member has of a split: he comes out of the side that holds him, and beats whoever comes
-// out of the other. His cell is the same against every loser, so it multiplies their sum and not
-// each of them.
+// What the winner has from a half against the rest: nothing where he is not in the half. His cell
+// is the same against every loser, so it multiplies their sum and not each of them.
 pub(crate) fn win<V: Algebra>(
     cells: &[V],
     grid: &[V],
@@ -64,12 +63,32 @@ pub(crate) fn win<V: Algebra>(
     winner: usize,
 ) -> V
     requires { (Room n (length cells.now) (length grid.now)) × ((half < 2 ^ n) × ((rest < 2 ^ n) × (winner < n))) }
-    ensures is_what_his_side_gives { V.Algebra.means result ≡ won V.Algebra.semiring (weight_of V.Algebra.semiring (map V.Algebra.means grid.now)) n (cell_of V.Algebra.semiring n (map V.Algebra.means cells.now)) half rest winner }
+    ensures is_what_that_half_gives { V.Algebra.means result ≡ won V.Algebra.semiring (weight_of V.Algebra.semiring (map V.Algebra.means grid.now)) n (cell_of V.Algebra.semiring n (map V.Algebra.means cells.now)) half rest winner }
 {
     if holds(half, winner) {
         cell_of(cells, n, half, winner).times(beaten(cells, grid, n, rest, winner))
     } else {
-        cell_of(cells, n, rest, winner).times(beaten(cells, grid, n, half, winner))
+        V::nothing()
+    }
+}
+
+// What a member has of a split: he comes out of the side that holds him, and beats whoever comes
+// out of the other.
+pub(crate) fn win_of_split<V: Algebra>(
+    cells: &[V],
+    grid: &[V],
+    n: usize,
+    half: u32,
+    rest: u32,
+    winner: usize,
+) -> V
+    requires { (Room n (length cells.now) (length grid.now)) × ((half < 2 ^ n) × ((rest < 2 ^ n) × (winner < n))) }
+    ensures is_what_his_side_gives { V.Algebra.means result ≡ won_of_split V.Algebra.semiring (weight_of V.Algebra.semiring (map V.Algebra.means grid.now)) n (cell_of V.Algebra.semiring n (map V.Algebra.means cells.now)) half rest winner }
+{
+    if holds(half, winner) {
+        win(cells, grid, n, half, rest, winner)
+    } else {
+        win(cells, grid, n, rest, half, winner)
     }
 }
 
@@ -86,7 +105,7 @@ pub(crate) fn refresh_set<V: Algebra>(memory: &mut [V], grid: &[V], n: usize, se
         let mut left = set;
         while left > 0 {
             let winner = lowest(left) as usize;
-            let sum = sums[winner].plus(win(memory, grid, n, half.set, half.rest, winner));
+            let sum = sums[winner].plus(win_of_split(memory, grid, n, half.set, half.rest, winner));
             sums[winner] = sum;
             left &= left - 1;
         }

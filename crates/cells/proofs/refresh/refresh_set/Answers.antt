@@ -71,11 +71,11 @@ loop-left-preserved g c =
       within_off c.args.set left w low c.loop-left.invariant.0,
       length-set sums w c.plus-sum.result ∙ c.loop-left.invariant.1,
       piled_more A m.means _ c.args.set c.loop-half.sums left w c.plus-sum.result sums (set sums w c.plus-sum.result) low l c.loop-left.invariant.2
-          (c.plus-sum.ensures.means_the_sum ∙ ap₂ A.plus (sym read) c.win.ensures.is_what_his_side_gives) refl,
+          (c.plus-sum.ensures.means_the_sum ∙ ap₂ A.plus (sym read) c.win_of_split.ensures.is_what_his_side_gives) refl,
     )
 
-pub win-requires : goal.win-requires
-win-requires g c =
+pub win_of_split-requires : goal.win_of_split-requires
+win_of_split-requires g c =
     let told = c.in-Some.ensures.is_a_half_that_holds_the_entrant_with_its_rest in
     let s = c.loop-half.invariant.0 in
     let l = at_most c.loop-half.halves.set c.args.set c.loop-half.halves.entrant c.in-Some.half.set s told.0 in

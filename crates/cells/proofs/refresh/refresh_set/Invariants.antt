@@ -1,7 +1,7 @@
 use Rattle.std.proofs.Common.{◌≡◌, map, length}
 use Rattle.cells.specs.Walks.{ahead}
 use Rattle.cells.specs.Renewal.{Renewal, cell_of, weight_of}
-use Rattle.cells.specs.Splits.{of_size, won, sum_of}
+use Rattle.cells.specs.Splits.{of_size, won_of_split, sum_of}
 use Rattle.cells.proofs.Lowering.{Within}
 use Rattle.cells.proofs.Renewing.{so_far}
 use Rattle.cells.proofs.Piling.{Along, Piled}
@@ -22,7 +22,7 @@ invariant-loop-left g l =
     let m = g.V.Algebra in
     let A = m.semiring in
     Within l.left l.set × (length l.sums ≡ 16)
-    × Piled A m.means (won A (weight_of A (map m.means l.grid)) l.n (cell_of A l.n (map m.means l.memory)) l.half.set l.half.rest) l.set l.left l.initial.sums l.sums
+    × Piled A m.means (won_of_split A (weight_of A (map m.means l.grid)) l.n (cell_of A l.n (map m.means l.memory)) l.half.set l.half.rest) l.set l.left l.initial.sums l.sums
 
 abbrev pub decreases-loop-left : goal.decreases-loop-left
 decreases-loop-left g l = l.left

@@ -1,4 +1,4 @@
-use Rattle.std.proofs.Common.{map, ◌∙◌, ap₂}
+use Rattle.std.proofs.Common.{map, sym, ◌∙◌, ap₂}
 use Rattle.cells.specs.Renewal.{cell_of, weight_of}
 use Rattle.cells.proofs.Piling.{won_in, won_out}
 use Rattle.cells.proofs.refresh.win.Goals as goal
@@ -9,7 +9,7 @@ returns-then-holds g c =
     let A = m.semiring in
     let n = c.args.n in
     record {
-      is_what_his_side_gives = c.times.ensures.means_the_product ∙ ap₂ A.times c.cell_of.ensures.means_that_cell c.beaten.ensures.is_the_sum_over_the_losers
+      is_what_that_half_gives = c.times.ensures.means_the_product ∙ ap₂ A.times c.cell_of.ensures.means_that_cell c.beaten.ensures.is_the_sum_over_the_losers
           ∙ won_in A g.met.V.Algebra.lawful (weight_of A (map m.means c.args.grid.now)) n (cell_of A n (map m.means c.args.cells.now)) c.args.half c.args.rest c.args.winner c.if-holds.ensures.says_whether_he_is_a_member;
     }
 
@@ -19,6 +19,6 @@ returns-else-holds g c =
     let A = m.semiring in
     let n = c.args.n in
     record {
-      is_what_his_side_gives = c.times-else-holds.ensures.means_the_product ∙ ap₂ A.times c.cell_of-else-holds.ensures.means_that_cell c.beaten-else-holds.ensures.is_the_sum_over_the_losers
-          ∙ won_out A g.met.V.Algebra.lawful (weight_of A (map m.means c.args.grid.now)) n (cell_of A n (map m.means c.args.cells.now)) c.args.half c.args.rest c.args.winner c.if-holds.ensures.says_whether_he_is_a_member;
+      is_what_that_half_gives = c.nothing.ensures.means_nothing
+          ∙ sym (won_out A g.met.V.Algebra.lawful (weight_of A (map m.means c.args.grid.now)) n (cell_of A n (map m.means c.args.cells.now)) c.args.half c.args.rest c.args.winner c.if-holds.ensures.says_whether_he_is_a_member);
     }
