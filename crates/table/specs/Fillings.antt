@@ -9,10 +9,10 @@ use Rattle.cells.specs.Renewal.{cell_of}
 abbrev pub Blank : {M : Type 0} → Semiring M → ℕ → List M → Type 0
 Blank A count cells = (i : ℕ) → i < count → slice_index_or cells i A.nothing ≡ A.nothing
 
--- so many values mean nothing now, and those behind them are as they were
+-- so many values mean nothing, and those behind them are as they were
 pub record Cleared {V M : Type 0} (A : Semiring M) (means : V → M) (count : ℕ) (before after : List V) : Type 0 where
   pub same_length : length after ≡ length before
-  pub cleared : Blank A count (map means after)
+  pub cleared : (i : ℕ) → i < count → slice_index_or (map means after) i A.nothing ≡ A.nothing
   pub held : (i : ℕ) (d : V) → count ≤ i → slice_index_or after i d ≡ slice_index_or before i d
 
 module _ {M : Type 0} (A : Semiring M) (f : Field) where

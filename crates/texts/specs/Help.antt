@@ -14,7 +14,6 @@ help_text =
     ∷ codes ""
     ∷ codes "with no argument   do the whole job on the built-in sheet"
     ∷ codes "show FILE          show the sheet in FILE, or why it is refused and what to mend"
-    ∷ codes "report FILE        tell who can win, by how many draws, and at what least bribe"
     ∷ codes "help               show this text"
     ∷ codes ""
     ∷ codes "FILE is a sheet file: words of four bytes each, the head first."

@@ -9,7 +9,6 @@ pub fn help_text() -> &'static str
      \n\
      with no argument   do the whole job on the built-in sheet\n\
      show FILE          show the sheet in FILE, or why it is refused and what to mend\n\
-     report FILE        tell who can win, by how many draws, and at what least bribe\n\
      help               show this text\n\
      \n\
      FILE is a sheet file: words of four bytes each, the head first."

@@ -117,15 +117,13 @@ fn report_file(rt: &HostRuntime, path: &str) -> anyhow::Result<()> {
     print_report_of(rt, &sources, kind)
 }
 
-fn do_built_in(rt: &HostRuntime) -> anyhow::Result<()> {
+fn show_built_in(rt: &HostRuntime) -> anyhow::Result<()> {
     let mut sources = told(rt, Sources::plain(2))?;
     let bytes = bytes_of(rt.alloc(), &BUILT_IN)?;
     rt.println("the built-in sheet")?;
     let kind = read_sheet(rt, bytes.as_slice(), &mut sources)?;
     print_head(rt, &sources, kind)?;
-    print_sheet(rt, &sources, kind)?;
-    rt.println("")?;
-    print_report_of(rt, &sources, kind)
+    print_sheet(rt, &sources, kind)
 }
 
 fn run(rt: &HostRuntime, command: &str, file: &Option<String>) -> anyhow::Result<()> {
@@ -147,6 +145,6 @@ fn main(rt: HostRuntime) -> anyhow::Result<()> {
     let mut words = env::args(&rt)?.skip(1);
     match words.next() {
         Some(command) => run(&rt, command.as_str(), &words.next()),
-        None => do_built_in(&rt),
+        None => show_built_in(&rt),
     }
 }
