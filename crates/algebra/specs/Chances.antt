@@ -1,5 +1,5 @@
 -- Possibility keeps the laws of an algebra. Assumes nothing.
-use Rattle.std.specs.Prelude.{Bool, true, false, refl}
+use Rattle.std.specs.Prelude.{true, false, refl}
 use Rattle.std.proofs.Common.{inl, inr, rules}
 use Rattle.algebra.specs.Semirings.{LawfulSemiring, Chooses}
 use Rattle.algebra.specs.Possibilities.{possibilities}

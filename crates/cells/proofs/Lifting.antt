@@ -1,5 +1,5 @@
 -- A refreshed level holds the figures. Assumes nothing.
-use Rattle.std.proofs.Common.{◌≡◌, ℕ, suc, ◌+◌, ◌-◌, ◌*◌, ◌^◌, ◌<◌, ◌≤◌, Bool, true, false, ltb, ◌⊎◌, List, map, length, sym, refl, ap, ◌∙◌, ap₂, inl, inr, arith, pow_pos}
+use Rattle.std.proofs.Common.{◌≡◌, ℕ, suc, ◌+◌, ◌*◌, ◌^◌, ◌<◌, ◌≤◌, Bool, true, false, ltb, ◌⊎◌, List, map, length, sym, refl, ap, ◌∙◌, ap₂, inl, inr, arith, pow_pos}
 use lib.Bits.{bit_and, and_comm}
 use lib.Count.{ones}
 use Rattle.std.proofs.lemmas.Nat.{div-mul-add, mod-mul-add, mul-add-lt}

@@ -1,5 +1,5 @@
 -- Weights from a grid, and those of a field. Assumes nothing.
-use Rattle.std.proofs.Common.{◌≡◌, ℕ, ◌-◌, ◌<◌, List, map, sym, refl, ap, ◌∙◌, arith}
+use Rattle.std.proofs.Common.{◌≡◌, ℕ, ◌<◌, List, map, sym, refl, ap, ◌∙◌, arith}
 use Rattle.algebra.specs.Semirings.{Semiring}
 use Rattle.figures.specs.Fields.{Field}
 use Rattle.figures.specs.Sets.{members, halves}

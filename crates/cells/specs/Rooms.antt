@@ -1,5 +1,5 @@
 -- How much memory a table needs, and when a refresh of a level is refused.
-use Rattle.std.specs.Prelude.{ℕ, ◌*◌, ◌^◌, Bool, cond, not, List, [], ◌∷◌, Ok, Err, Option, Result, nat_lt}
+use Rattle.std.specs.Prelude.{ℕ, ◌*◌, ◌^◌, Bool, cond, not, [], ◌∷◌, Ok, Err, Option, Result, nat_lt}
 use Rattle.facts.specs.declared.refusals.Refusal.{Refusal}
 use Rattle.facts.specs.declared.refusals.Refusal.TheVariants.{SizeNotAllowed, MemoryTooShort, LevelsAllFilled}
 use Rattle.facts.specs.Refusals.{first_of}

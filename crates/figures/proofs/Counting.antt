@@ -1,18 +1,18 @@
 -- How many brackets there are on a set. Assumes nothing.
-use Rattle.std.proofs.Common.{◌≡◌, ℕ, zero, suc, ◌+◌, ◌-◌, ◌*◌, ◌^◌, ◌<◌, ◌≤◌, Bool, true, false, cond, ◌&&◌, eqb, ◌⊎◌, List, [], ◌∷◌, ◌++◌, map, length, None, filter, sym, refl, ap, ◌∙◌, subst, ap₂, inl, inr, suc-mul, mul_comm, pow-suc, arith, length-append, pow_pos}
+use Rattle.std.proofs.Common.{◌≡◌, ℕ, zero, suc, ◌-◌, ◌*◌, ◌^◌, ◌<◌, true, cond, ◌&&◌, eqb, ◌⊎◌, List, [], ◌∷◌, map, length, None, sym, refl, ap, ◌∙◌, subst, ap₂, inl, inr, suc-mul, mul_comm, pow-suc, arith, length-append, pow_pos}
 use lib.Count.{ones}
 use lib.ListN.{length-map}
 use lib.Pow.{pow-lt}
 use Rattle.std.specs.List.{range_with_len}
-use Rattle.std.proofs.lemmas.Bool.{eq-eqb, eqb-true, cases_order}
+use Rattle.std.proofs.lemmas.Bool.{eq-eqb, cases_order}
 use Rattle.figures.specs.Lists.{In, Distinct, EachOnce, gather}
 use Rattle.figures.specs.Fields.{Field}
 use Rattle.figures.specs.Sets.{has, half, members, lowest, halves}
-use Rattle.figures.specs.Brackets.{Bracket, alone, pair, Side, first, second, Filled, sole, match, bracket, Halved, Ordered, BracketOn, On, listed_in}
+use Rattle.figures.specs.Brackets.{Bracket, alone, pair, first, Filled, sole, match, bracket, Ordered, BracketOn, On, listed_in}
 use Rattle.figures.specs.Counts.{choose, bracket_count}
 use Rattle.figures.proofs.Lists.{in_map, map_in, in_gather, gather_in}
 use Rattle.figures.proofs.Bits.{half_parts, part_le, ones_sub, bit_true, ones_one}
-use Rattle.figures.proofs.Champions.{Made, made, single, members_in, in_members, halves_in, in_halves, lowest_in_lem}
+use Rattle.figures.proofs.Champions.{made, single, members_in, in_members, halves_in, lowest_in_lem}
 use Rattle.figures.proofs.Listed.{positive, in_listed, sound, complete, on_one, distinct_counting, distinct_kept, distinct_map, distinct_gather}
 use Rattle.figures.proofs.Halving.{halves_count}
 

@@ -1,14 +1,14 @@
 -- How many halves a set has that hold a given entrant. Assumes nothing.
-use Rattle.std.proofs.Common.{◌≡◌, ℕ, zero, suc, ◌+◌, ◌-◌, ◌*◌, ◌/◌, ◌%◌, ◌^◌, ◌<◌, ◌≤◌, min, Bool, true, false, cond, ◌&&◌, eqb, ◌⊎◌, List, [], ◌∷◌, ◌++◌, length, filter, sym, refl, ap, ◌∙◌, ap₂, inl, inr, mul_comm, pow-suc, arith, length-append}
+use Rattle.std.proofs.Common.{◌≡◌, ℕ, zero, suc, ◌+◌, ◌-◌, ◌*◌, ◌/◌, ◌%◌, ◌^◌, ◌<◌, ◌≤◌, min, Bool, true, false, cond, ◌&&◌, eqb, ◌⊎◌, List, [], ◌∷◌, ◌++◌, length, filter, sym, refl, ap, ◌∙◌, ap₂, inl, inr, mul_comm, pow-suc, arith}
 use lib.Bits.{bit_and, and_step}
 use lib.Count.{ones, ones_step}
 use Rattle.std.specs.List.{range_with_len}
-use Rattle.std.proofs.lemmas.Bool.{eqb-true, eqb-false, eq-eqb, ne_eqb, and_parts, and_from, and_left, and_right, cond-true, cond-false, cases_eq, cases_Bool, both_ways}
+use Rattle.std.proofs.lemmas.Bool.{eqb-true, eqb-false, eq-eqb, ne_eqb, and_left, and_right, cases_eq}
 use Rattle.std.proofs.lemmas.Bool.Decides.{nat_tests}
 use Rattle.figures.specs.Fields.{Field}
 use Rattle.figures.specs.Sets.{has, sub, half, halves}
 use Rattle.figures.specs.Counts.{choose}
-use Rattle.figures.proofs.Bits.{bit, bit_zero, bit_suc, bit_true, Part, part_le, sub_part, has_bit, ones_some, member_lt}
+use Rattle.figures.proofs.Bits.{bit, bit_zero, bit_suc, bit_true, part_le, sub_part, has_bit, ones_some, member_lt}
 
 -- how many below m pass a test
 pub tally : (ℕ → Bool) → ℕ → ℕ

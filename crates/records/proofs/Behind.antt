@@ -1,5 +1,5 @@
 -- The words behind a part. Assumes nothing.
-use Rattle.std.proofs.Common.{◌≡◌, ℕ, zero, suc, ◌+◌, ◌-◌, ◌*◌, ◌^◌, List, ◌∷◌, length, drop, sym, refl, ap, ◌∙◌, arith, length-append, pow_pos}
+use Rattle.std.proofs.Common.{◌≡◌, ℕ, zero, suc, ◌+◌, ◌*◌, ◌^◌, List, ◌∷◌, length, drop, sym, refl, ap, ◌∙◌, arith, length-append, pow_pos}
 use Rattle.std.proofs.lemmas.List.{drop-drop}
 use Rattle.records.specs.Records.{word_count}
 use Rattle.records.specs.Places.{places}

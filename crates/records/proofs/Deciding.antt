@@ -1,5 +1,5 @@
 -- Words meet no refusal exactly where they are a record, and a record tells its bracket. Assumes nothing.
-use Rattle.std.proofs.Common.{◌≡◌, ℕ, ◌+◌, ◌-◌, ◌^◌, ◌<◌, ◌≤◌, true, ◌||◌, eqb, ◌⊎◌, List, [], ◌++◌, length, Some, None, sym, ap, ◌∙◌, subst, ap₂, inl, inr, append-nil, arith, pow_mono}
+use Rattle.std.proofs.Common.{◌≡◌, ℕ, ◌-◌, ◌^◌, ◌<◌, ◌≤◌, true, ◌||◌, eqb, ◌⊎◌, List, [], ◌++◌, length, Some, None, sym, ap, ◌∙◌, subst, ap₂, inl, inr, append-nil, arith, pow_mono}
 use lib.Bits.{and_zero_l}
 use lib.Count.{ones-ones}
 use lib.Pow.{ones_lt}

@@ -1,5 +1,5 @@
 -- The record of a bracket passes its places, its matches agree, and it tells the bracket. Assumes nothing.
-use Rattle.std.proofs.Common.{◌≡◌, ℕ, suc, ◌+◌, ◌-◌, ◌^◌, ◌<◌, ◌≤◌, true, ◌&&◌, ◌⊎◌, List, ◌∷◌, ◌++◌, length, sym, refl, ap, ◌∙◌, subst, ap₂, inl, inr, append_assoc, add_assoc, arith, length-append}
+use Rattle.std.proofs.Common.{◌≡◌, ℕ, suc, ◌+◌, ◌^◌, ◌<◌, ◌≤◌, true, ◌&&◌, ◌⊎◌, List, ◌∷◌, ◌++◌, length, sym, refl, ap, ◌∙◌, subst, ap₂, inl, inr, append_assoc, add_assoc, arith, length-append}
 use lib.Bits.{bit_or, or_disjoint}
 use Rattle.std.proofs.lemmas.Bool.{and_from}
 use Rattle.figures.specs.Sets.{Apart}

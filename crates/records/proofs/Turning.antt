@@ -10,7 +10,7 @@ use Rattle.records.specs.declared.words.Match.{Match}
 use Rattle.records.specs.Words.{match_in}
 use Rattle.records.specs.Records.{word_count}
 use Rattle.records.specs.Places.{places, leaf_refusal, match_refusal, misplaced}
-use Rattle.records.specs.Matches.{agrees, fair_here, behind}
+use Rattle.records.specs.Matches.{agrees, fair_here}
 use Rattle.records.specs.Readings.{win_of, wins_in}
 use Rattle.records.specs.Refusing.{place_refusal}
 use Rattle.records.proofs.Behind.{length_places}

@@ -1,5 +1,5 @@
 -- The wins of a record are worth what its bracket is worth. Assumes nothing.
-use Rattle.std.proofs.Common.{◌≡◌, ℕ, ◌+◌, ◌^◌, ◌<◌, List, [], ◌++◌, sym, ap, ◌∙◌, ap₂, append_assoc, append-nil, arith}
+use Rattle.std.proofs.Common.{◌≡◌, ℕ, ◌^◌, ◌<◌, List, [], ◌++◌, sym, ap, ◌∙◌, ap₂, append_assoc, append-nil, arith}
 use Rattle.algebra.specs.Semirings.{Semiring, LawfulSemiring}
 use Rattle.figures.specs.Brackets.{Filled, sole, match, pick, champion, On}
 use Rattle.figures.specs.Fields.{Field}

@@ -1,6 +1,5 @@
 -- Values that are set to nothing, one by one. Assumes nothing.
 use Rattle.std.proofs.Common.{◌≡◌, ℕ, ◌+◌, ◌<◌, ◌⊎◌, List, map, length, get_or, set, ap, ◌∙◌, inl, inr, arith, length-set, get_or-set_other}
-use lib.ListN.{length-map}
 use Rattle.std.proofs.lemmas.Bool.{cases_eq}
 use Rattle.algebra.specs.Semirings.{Semiring}
 use Rattle.table.specs.Fillings.{Cleared}

@@ -1,13 +1,13 @@
 -- A table that is filled level by level. Assumes nothing.
-use Rattle.std.proofs.Common.{◌≡◌, ℕ, zero, suc, ◌+◌, ◌*◌, ◌/◌, ◌%◌, ◌^◌, ◌<◌, ◌≤◌, Bool, true, false, cond, eqb, ◌⊎◌, List, map, length, get_or, sym, refl, ap, ◌∙◌, subst, ap₂, inl, inr, arith, pow_pos, pow_mono}
+use Rattle.std.proofs.Common.{◌≡◌, ℕ, ◌+◌, ◌*◌, ◌/◌, ◌%◌, ◌^◌, ◌<◌, ◌≤◌, Bool, true, false, cond, ◌⊎◌, List, map, length, sym, refl, ap, ◌∙◌, subst, ap₂, inl, inr, arith, pow_pos, pow_mono}
 use lib.Bits.{and_comm}
 use lib.Count.{ones, ones-le}
 use lib.Pow.{pow-lt}
 use Rattle.std.proofs.lemmas.Nat.{le-div, mod_below, div-mul-add, mod-mul-add, mul-add-lt}
-use Rattle.std.proofs.lemmas.Bool.{eqb-true, eq-eqb, ne_eqb, and_right, and_from, and_left, cases_eq, cases_lt, lt-ltb, le-ltb}
+use Rattle.std.proofs.lemmas.Bool.{eq-eqb, ne_eqb, and_right, and_from, and_left, cases_eq, cases_lt, lt-ltb, le-ltb}
 use Rattle.algebra.specs.Semirings.{Semiring, LawfulSemiring}
 use Rattle.figures.specs.Fields.{Field}
-use Rattle.figures.specs.Sets.{has, Member}
+use Rattle.figures.specs.Sets.{has}
 use Rattle.figures.specs.Figures.{figure, by_halves}
 use Rattle.figures.proofs.Bits.{bit_true, member_lt, ones_one, ones_pow}
 use Rattle.figures.proofs.Alone.{of_one}

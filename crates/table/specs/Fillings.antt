@@ -1,5 +1,5 @@
 -- What stands in memory while a table is filled.
-use Rattle.std.specs.Prelude.{◌≡◌, ℕ, ◌*◌, ◌^◌, ◌<◌, ◌≤◌, List, map, length, count_ones, slice_index_or}
+use Rattle.std.specs.Prelude.{◌≡◌, ℕ, ◌^◌, ◌<◌, ◌≤◌, List, map, length, count_ones, slice_index_or}
 use Rattle.algebra.specs.Semirings.{Semiring}
 use Rattle.figures.specs.Fields.{Field}
 use Rattle.figures.specs.Figures.{figure}

@@ -1,6 +1,6 @@
 -- When a call on a table is refused. A stage is of n entrants, a memory has so many values, and a source is of so many
 -- entrants; each refusal is the first of its list that applies.
-use Rattle.std.specs.Prelude.{ℕ, ◌^◌, Bool, not, List, [], ◌∷◌, length, Option, ◌==◌, nat_lt}
+use Rattle.std.specs.Prelude.{ℕ, ◌^◌, not, [], ◌∷◌, Option, ◌==◌, nat_lt}
 use Rattle.facts.specs.declared.refusals.Refusal.{Refusal}
 use Rattle.facts.specs.declared.refusals.Refusal.TheVariants.{SizeNotAllowed, SizesDiffer, EntrantUnknown, NobodyCanWin, LevelMissing}
 use Rattle.facts.specs.Refusals.{first_of}

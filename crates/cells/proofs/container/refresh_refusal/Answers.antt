@@ -1,4 +1,4 @@
-use Rattle.std.proofs.Common.{◌≡◌, ℕ, ◌*◌, ◌%◌, ◌^◌, ◌<◌, ◌≤◌, ap, arith, pow_mono}
+use Rattle.std.proofs.Common.{ℕ, ◌*◌, ◌%◌, ◌^◌, ◌<◌, ◌≤◌, ap, arith, pow_mono}
 use lib.Pow.{pow-lt}
 use Rattle.std.proofs.lemmas.Nat.{one_shl}
 use Rattle.facts.proofs.Refusing.{legal_some}

@@ -1,4 +1,4 @@
-use Rattle.std.proofs.Common.{◌+◌, ◌*◌, ◌≤◌, map, length, set, sym, ap, ◌∙◌, subst, arith, length-set}
+use Rattle.std.proofs.Common.{◌+◌, ◌*◌, map, length, set, sym, ap, ◌∙◌, subst, arith, length-set}
 use Rattle.figures.specs.Fields.{field_of}
 use Rattle.sources.specs.Holding.{legal_small}
 use Rattle.cells.specs.Asking.{WeighedBelow}

@@ -1,4 +1,4 @@
-use Rattle.std.proofs.Common.{◌≡◌, ℕ, map, length, sym, ◌∙◌, subst, ap₂}
+use Rattle.std.proofs.Common.{ℕ, map, length, sym, ◌∙◌, subst, ap₂}
 use Rattle.facts.proofs.Refusing.{legal_some, changed_so, changed_then, answered_so, answered_then, handed_then, handed_back, not_both}
 use Rattle.cells.specs.Renewal.{Renewal}
 use Rattle.cells.specs.Rooms.{needed}

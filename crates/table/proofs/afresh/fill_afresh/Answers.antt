@@ -1,4 +1,4 @@
-use Rattle.std.proofs.Common.{◌≡◌, ℕ, ◌+◌, ◌^◌, ◌<◌, ◌≤◌, map, length, sym, refl, ap, ◌∙◌, subst, arith, pow_mono}
+use Rattle.std.proofs.Common.{ℕ, ◌+◌, ◌^◌, ◌<◌, ◌≤◌, map, length, sym, refl, ap, ◌∙◌, subst, arith, pow_mono}
 use lib.Count.{count_trailing_zeros}
 use lib.Pow.{pow-lt}
 use Rattle.std.proofs.lemmas.Result.{err_from_is_err_and}
