@@ -14,6 +14,7 @@ use sheets::reader::read;
 use sources::kind::SourceKind;
 use sources::source::MatchSource;
 use std::alloc::{AllocError, Global};
+use std::process::ExitCode;
 use std::{env, fs};
 use texts::help::help_text;
 use texts::pairings::{pairing_header, pairing_line};
@@ -141,10 +142,18 @@ fn run(rt: &HostRuntime, command: &str, file: &Option<String>) -> anyhow::Result
     }
 }
 
-fn main(rt: HostRuntime) -> anyhow::Result<()> {
-    let mut words = env::args(&rt)?.skip(1);
+fn attend(rt: &HostRuntime) -> anyhow::Result<()> {
+    let mut words = env::args(rt)?.skip(1);
     match words.next() {
-        Some(command) => run(&rt, command.as_str(), &words.next()),
-        None => show_built_in(&rt),
+        Some(command) => run(rt, command.as_str(), &words.next()),
+        None => show_built_in(rt),
+    }
+}
+
+// Whatever was refused has been told by now, so that only the status is left to tell.
+fn main(rt: HostRuntime) -> ExitCode {
+    match attend(&rt) {
+        Ok(()) => ExitCode::SUCCESS,
+        Err(_) => ExitCode::FAILURE,
     }
 }
