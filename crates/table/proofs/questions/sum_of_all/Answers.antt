@@ -1,4 +1,4 @@
-use Rattle.std.proofs.Common.{◌≡◌, ℕ, List, map, sym, refl, ap, ◌∙◌, ap₂, arith}
+use Rattle.std.proofs.Common.{◌≡◌, ℕ, List, map, sym, ap, ◌∙◌, ap₂, arith, rules}
 use Rattle.std.specs.List.{range_with_len}
 use Rattle.figures.specs.Sums.{over}
 use Rattle.figures.proofs.Loops.{range_more}
@@ -8,7 +8,7 @@ use Rattle.table.proofs.questions.sum_of_all.Goals as goal
 
 pub loop-entrant-init : goal.loop-entrant-init
 unfolding over
-loop-entrant-init g c = (refl, c.nothing-sum.ensures.means_nothing)
+loop-entrant-init g c = search rules
 
 pub loop-entrant-preserved : goal.loop-entrant-preserved
 loop-entrant-preserved g c =
