@@ -80,6 +80,7 @@ pub struct Cells<'a, V: Algebra> {
 impl<'a, V: Algebra> Cells<'a, V> {
     pub fn over(memory: &'a mut [V]) -> Cells<'a, V>
         ensures holds_that_memory { result.memory.now ≡ memory.old }
+        ensures is_over_that_memory { result.memory.ghost_name ≡ memory.entry.ghost_name }
     {
         Cells {
             memory,
@@ -97,6 +98,7 @@ impl<'a, V: Algebra> Cells<'a, V> {
     ) -> Result<(), Refusal>
         ensures answers_by_the_first_refusal { result ≡ decided (refresh_refusal (S.MatchSource.sheet source.now).size (length self.old.memory.now) level) }
         ensures renews_those_cells_alone_or_changes_nothing { Changed (refresh_refusal (S.MatchSource.sheet source.now).size (length self.old.memory.now) level) (Renewal V.Algebra.semiring V.Algebra.means (S.MatchSource.sheet source.now).size (of_level (S.MatchSource.sheet source.now).size (2 ^ (level + 1)) must) (by_halves V.Algebra.semiring (field_of (S.MatchSource.sheet source.now)) (cell_of V.Algebra.semiring (S.MatchSource.sheet source.now).size (map V.Algebra.means self.old.memory.now)))) self.old.memory.now self.new.memory.now }
+        ensures stays_over_that_memory { self.new.memory.ghost_name ≡ self.old.memory.ghost_name }
     {
         let n = source.size();
         if let Some(refusal) = refresh_refusal(n, self.memory.len(), level) {

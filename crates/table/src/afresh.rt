@@ -16,6 +16,7 @@ use sources::source::MatchSource;
 fn begin<V: Algebra>(n: usize, cells: &mut Cells<V>) -> Result<LevelFilled<V>, Refusal>
     ensures is_at_level_nought_or_the_first_refusal { Answered (open_refusal n (length cells.old.memory.now)) (λ l. (l.size ≡ n) × (l.level ≡ 0)) result }
     ensures has_the_first_level_of_every_field_or_changes_nothing { Changed (open_refusal n (length cells.old.memory.now)) (λ before after. ((f : Field) → f.size ≡ n → FilledTo V.Algebra.semiring f 0 (map V.Algebra.means after)) × TailKept (needed n) before after) cells.old.memory.now cells.new.memory.now }
+    ensures stays_over_that_memory { cells.new.memory.ghost_name ≡ cells.old.memory.ghost_name }
 {
     let empty = Empty::open(n, cells)?;
     match empty.start(cells) {
@@ -32,6 +33,7 @@ pub fn fill_afresh<V: Algebra, S: MatchSource>(
 ) -> Result<Complete<V>, Refusal>
     ensures is_complete_or_the_refusal { Answered (room_refusal (S.MatchSource.sheet source.now).size (length cells.old.memory.now)) (λ c. c.size ≡ (S.MatchSource.sheet source.now).size) result }
     ensures every_needed_cell_means_its_figure_or_nothing_changed { Changed (room_refusal (S.MatchSource.sheet source.now).size (length cells.old.memory.now)) (λ before after. InOrder V.Algebra.semiring (field_of (S.MatchSource.sheet source.now)) (map V.Algebra.means after) × TailKept (needed (S.MatchSource.sheet source.now).size) before after) cells.old.memory.now cells.new.memory.now }
+    ensures stays_over_that_memory { cells.new.memory.ghost_name ≡ cells.old.memory.ghost_name }
 {
     let n = source.size();
     let mut stage = begin(n, cells)?;

@@ -24,6 +24,7 @@ impl<V: Algebra> LevelFilled<V> {
         ensures moves_to_the_next_level_or_hands_the_stage_back { HandedOn (fill_refusal self.size self.level (S.MatchSource.sheet source.now).size (length cells.old.memory.now)) (λ l. (l.size ≡ self.size) × (l.level ≡ self.level + 1)) self result }
         ensures fills_that_level_alone_or_changes_nothing { Changed (fill_refusal self.size self.level (S.MatchSource.sheet source.now).size (length cells.old.memory.now)) (Renewal V.Algebra.semiring V.Algebra.means self.size (of_level self.size (2 ^ (self.level + 1)) 0) (by_halves V.Algebra.semiring (field_of (S.MatchSource.sheet source.now)) (cell_of V.Algebra.semiring self.size (map V.Algebra.means cells.old.memory.now)))) cells.old.memory.now cells.new.memory.now }
         ensures levels_that_mean_their_figures_gain_one { fill_refusal self.size self.level (S.MatchSource.sheet source.now).size (length cells.old.memory.now) ≡ None → FilledTo V.Algebra.semiring (field_of (S.MatchSource.sheet source.now)) self.level (map V.Algebra.means cells.old.memory.now) → FilledTo V.Algebra.semiring (field_of (S.MatchSource.sheet source.now)) (self.level + 1) (map V.Algebra.means cells.new.memory.now) }
+        ensures stays_over_that_memory { cells.new.memory.ghost_name ≡ cells.old.memory.ghost_name }
     {
         if source.size() != self.size {
             return Err((self, Refusal::SizesDiffer));

@@ -12,3 +12,6 @@ pub mod stages;
 #[cfg(test)]
 mod tests;
 pub mod winners;
+
+// a walk through halves is reached from the table too
+pub use cells::halves;

@@ -22,6 +22,7 @@ impl<V: Algebra> Empty<V> {
     pub fn open(n: usize, cells: &mut Cells<V>) -> Result<Empty<V>, Refusal>
         ensures is_of_that_size_or_the_first_refusal { Answered (open_refusal n (length cells.old.memory.now)) (λ e. e.size ≡ n) result }
         ensures clears_the_needed_cells_or_changes_nothing { Changed (open_refusal n (length cells.old.memory.now)) (Cleared V.Algebra.semiring V.Algebra.means (needed n)) cells.old.memory.now cells.new.memory.now }
+        ensures stays_over_that_memory { cells.new.memory.ghost_name ≡ cells.old.memory.ghost_name }
     {
         let count = cells_needed(n)?;
         if cells.memory.len() < count {
@@ -38,6 +39,7 @@ impl<V: Algebra> Empty<V> {
         ensures moves_to_level_nought_or_hands_the_stage_back { HandedOn (room_refusal self.size (length cells.old.memory.now)) (λ l. (l.size ≡ self.size) × (l.level ≡ 0)) self result }
         ensures seats_the_single_entrants_or_changes_nothing { Changed (room_refusal self.size (length cells.old.memory.now)) (Renewal V.Algebra.semiring V.Algebra.means self.size (of_singles self.size) (λ _ _. V.Algebra.semiring.one)) cells.old.memory.now cells.new.memory.now }
         ensures cells_that_were_nothing_have_their_first_level { (f : Field) → f.size ≡ self.size → room_refusal self.size (length cells.old.memory.now) ≡ None → Blank V.Algebra.semiring (needed self.size) (map V.Algebra.means cells.old.memory.now) → FilledTo V.Algebra.semiring f 0 (map V.Algebra.means cells.new.memory.now) }
+        ensures stays_over_that_memory { cells.new.memory.ghost_name ≡ cells.old.memory.ghost_name }
     {
         if !has_room(self.size, cells.memory.len()) {
             return Err((self, Refusal::MemoryTooShort));

@@ -1,4 +1,9 @@
 // Worked fields, stage by stage and at once, and every refusal of a table.
+ghost use Rattle.std.specs.Prelude.{◌≡◌, true, map};
+ghost use Rattle.algebra.specs.Drawing.{counted, drawing};
+ghost use Rattle.figures.specs.Fields.{field_of};
+ghost use Rattle.table.specs.Fillings.{InOrder};
+
 use crate::afresh::fill_afresh;
 use crate::stages::{Complete, Empty};
 use algebra::algebra::Algebra;
@@ -44,6 +49,24 @@ fn two_entrants_have_one_draw(rt: HostRuntime) -> Result<(), Fail> {
     let table = fill_afresh(&matrix, &mut cells)?;
     assert_eq!(rt; table.figure(&mut cells, 0)?.count(), 1);
     assert_eq!(rt; table.figure(&mut cells, 1)?.count(), 0);
+    Ok(())
+}
+
+// What is promised of the cells holds of the memory that was lent, also when the cells are gone.
+fn fills_with_draws<S: MatchSource>(source: &S, memory: &mut [Draws]) -> bool
+    ensures { result ≡ true → InOrder drawing (field_of (S.MatchSource.sheet source.now)) (map (λ d. counted d.count) memory.new) }
+{
+    let mut cells = Cells::over(memory);
+    fill_afresh(source, &mut cells).is_ok()
+}
+
+#[test]
+fn the_lent_memory_holds_the_figures(rt: HostRuntime) -> Result<(), Fail> {
+    let mut memory = [Draws::nothing(); 8];
+    let matrix = ResultMatrix::lower_always_wins(2)?;
+    assert!(rt; fills_with_draws(&matrix, &mut memory));
+    assert_eq!(rt; memory[6].count(), 1);
+    assert_eq!(rt; memory[7].count(), 0);
     Ok(())
 }
 

@@ -26,6 +26,7 @@ returns-in-Ok g c =
         (λ f e. c.in-Ok.ensures.cells_that_were_nothing_have_their_first_level f (e ∙ sym opened.1) started.0 (subst (λ (k : ℕ). Blank m.semiring (needed k) (map m.means ys)) (sym opened.1) cleared.cleared)),
         tail_kept m.semiring m.means n xs ys zs (legal_some n room.0).0 cleared seated,
       );
+      stays_over_that_memory = c.in-Ok.ensures.stays_over_that_memory ∙ c.in_ok-empty.ensures.stays_over_that_memory;
     }
 
 -- what could be opened can be started

@@ -26,6 +26,7 @@ returns-in_err-stage g c =
     record {
       is_complete_or_the_refusal = answered_err _ _ c.from_residual.result p.0 e p.1 p.2 short;
       every_needed_cell_means_its_figure_or_nothing_changed = changed_not _ xs ys _ e short same;
+      stays_over_that_memory = c.in_err-stage.ensures.stays_over_that_memory;
     }
 
 pub loop-init : goal.loop-init
@@ -41,6 +42,7 @@ loop-init g c =
       opened.1.1,
       subst (λ (k : ℕ). FilledTo m.semiring f k (map m.means ys)) (sym opened.1.1) b.first,
       (refl, λ i d h. refl),
+      refl,
     )
 
 -- every level below the last can be filled
@@ -79,6 +81,7 @@ loop-preserved g c =
       moved.1.1 ∙ ap (λ (k : ℕ). k + 1) i.1,
       subst (λ (k : ℕ). FilledTo m.semiring f k (map m.means after)) (sym moved.1.1) (c.in-Ok.ensures.levels_that_mean_their_figures_gain_one moved.0 i.2),
       level_tail m.semiring m.means f.size c.loop.stage.size _ _ ys before after i.0 b.some (changed_then _ before after _ moved.0 c.in-Ok.ensures.fills_that_level_alone_or_changes_nothing) i.3,
+      c.in-Ok.ensures.stays_over_that_memory ∙ i.4,
     )
 
 pub returns-in-Ok-finish : goal.returns-in-Ok-finish
@@ -99,6 +102,7 @@ returns-in-Ok-finish g c =
         c.in-Ok-finish.ensures.all_levels_that_mean_their_figures_are_a_table_in_order f (map m.means after) (sym i.0) done.0 i.2,
         tail_then _ xs ys after b.tail i.3,
       );
+      stays_over_that_memory = i.4 ∙ c.in_ok-stage.ensures.stays_over_that_memory;
     }
 
 -- after the last level the table can be finished

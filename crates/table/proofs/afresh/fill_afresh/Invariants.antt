@@ -11,3 +11,4 @@ invariant-loop g l =
     (l.stage.size ≡ f.size) × (l.stage.level ≡ l.counter)
     × FilledTo m.semiring f l.stage.level (map m.means l.cells.memory.now)
     × TailKept (needed f.size) l.initial.cells.memory.now l.cells.memory.now
+    × (l.cells.memory.ghost_name ≡ l.initial.cells.memory.ghost_name)

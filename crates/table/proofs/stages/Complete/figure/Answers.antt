@@ -1,4 +1,4 @@
-use Rattle.std.proofs.Common.{◌≡◌, map, ◌∙◌, rules}
+use Rattle.std.proofs.Common.{◌≡◌, map, refl, ◌∙◌, rules}
 use Rattle.figures.specs.Figures.{figure}
 use Rattle.table.specs.Questions.{everybody}
 use Rattle.table.proofs.Asked.{final_figure}
@@ -15,4 +15,5 @@ returns g c =
           c.final_cell.ensures.means_what_that_cell_does ∙ final_figure m.semiring f c.args.self.now.size cells e p c.args.entrant c.if-entrant-self.false in
           search rules;
       changes_nothing = search rules;
+      stays_over_that_memory = refl;
     }

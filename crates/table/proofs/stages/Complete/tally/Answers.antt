@@ -1,4 +1,4 @@
-use Rattle.std.proofs.Common.{◌≡◌, map, ◌∙◌, rules}
+use Rattle.std.proofs.Common.{◌≡◌, map, refl, ◌∙◌, rules}
 use Rattle.figures.specs.Figures.{figure}
 use Rattle.table.specs.Questions.{tally_of}
 use Rattle.table.proofs.Asked.{final_tally}
@@ -15,4 +15,5 @@ returns g c =
           c.sum_of_all.ensures.means_the_sum_of_their_cells ∙ final_tally m.semiring f c.args.self.now.size cells e p in
           search rules;
       changes_nothing = search rules;
+      stays_over_that_memory = refl;
     }

@@ -1,4 +1,4 @@
-use Rattle.std.proofs.Common.{length, rules}
+use Rattle.std.proofs.Common.{length, refl, rules}
 use Rattle.facts.proofs.Refusing.{legal_some}
 use Rattle.table.proofs.Rising.{started}
 use Rattle.table.proofs.Roomy.{fits}
@@ -15,4 +15,5 @@ returns g c =
       cells_that_were_nothing_have_their_first_level = λ f e _ blank.
           started m.semiring g.met.V.Algebra.lawful m.means f n before c.seat_singles.new.memory e (legal_some n c.args.self.legal).0
           (fits n (length before) c.if-not-has_room.ensures.says_whether_the_cells_of_n_entrants_fit) blank c.seat_singles.ensures.seats_those_alone;
+      stays_over_that_memory = refl;
     }

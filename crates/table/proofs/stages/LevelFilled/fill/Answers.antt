@@ -44,4 +44,5 @@ returns-in-Ok g c =
       moves_to_the_next_level_or_hands_the_stage_back = handed_so _ _ _ _ refusal (refl, refl);
       fills_that_level_alone_or_changes_nothing = changed_so _ before after _ refusal renewed;
       levels_that_mean_their_figures_gain_one = λ _ p. one_more_level m.semiring g.met.V.Algebra.lawful m.means f n level before after is some fits renewed p;
+      stays_over_that_memory = c.in-Ok.ensures.stays_over_that_memory;
     }

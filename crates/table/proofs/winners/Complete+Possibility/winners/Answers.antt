@@ -1,4 +1,4 @@
-use Rattle.std.proofs.Common.{◌≡◌, map, ◌∙◌, rules}
+use Rattle.std.proofs.Common.{◌≡◌, map, refl, ◌∙◌, rules}
 use Rattle.algebra.specs.Possibilities.{possibilities}
 use Rattle.figures.specs.Figures.{figure}
 use Rattle.table.specs.Questions.{winners_of}
@@ -14,4 +14,5 @@ returns-in_default c =
           c.collect_winners.ensures.are_those_whose_cells_mean_yes ∙ final_winners f c.args.self.now.size (map (λ q. q.possible) c.args.cells.now.memory.now) e p in
           search rules;
       changes_nothing = search rules;
+      stays_over_that_memory = refl;
     }
