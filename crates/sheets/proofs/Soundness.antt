@@ -13,7 +13,7 @@ use Rattle.sources.specs.Holding.{legal_small, met, met_back}
 use Rattle.sources.specs.Lawfulness.{certain_back, ranked_back, or_back}
 use Rattle.sheets.specs.declared.misread.Misread.{Misread}
 use Rattle.sheets.specs.declared.words.Word.{Word}
-use Rattle.sheets.specs.declared.rows.Awaited.TheVariants.{Head as aHead}
+use Rattle.sheets.specs.declared.rows.Awaited.TheVariants.{Head as a_head}
 use Rattle.sheets.specs.declared.rows.Said.{Said}
 use Rattle.sheets.specs.declared.rows.Said.TheVariants.{Head as field, Row as row}
 use Rattle.sheets.specs.Places.{has_row, next_row}
@@ -164,16 +164,16 @@ module _ (k : SourceKind) (s : Sheet) (from : ℕ) (word : Word) (a b : ℕ) (fa
           ap (λ z. carries_of k i j z ((amended s a b facts).beats j i)) x ∙ ap (carries_of k i j (s.beats i j)) y ∙ good.carried i j o
 
 -- a head is awaited only at the beginning
-no_head_later : (k : SourceKind) (s : Sheet) (from : ℕ) → awaited_from k s from ≡ aHead → ⊥
+no_head_later : (k : SourceKind) (s : Sheet) (from : ℕ) → awaited_from k s from ≡ a_head → ⊥
 no_head_later Matrix s from h = go (next_row Matrix s.size from) h
   where
-    go : (o : Option ℕ) → outcome_at o ≡ aHead → ⊥
+    go : (o : Option ℕ) → outcome_at o ≡ a_head → ⊥
     go None e = let z : ◌≡◌ {A = ℕ} 0 1 = cc in omega arith
     go (Some p) e = let z : ◌≡◌ {A = ℕ} 0 1 = cc in omega arith
 no_head_later Order s from h = let z : ◌≡◌ {A = ℕ} 0 1 = cc in omega arith
 no_head_later Bribes s from h = go (next_row Bribes s.size from) h
   where
-    go : (o : Option ℕ) → price_at s o ≡ aHead → ⊥
+    go : (o : Option ℕ) → price_at s o ≡ a_head → ⊥
     go None e = let z : ◌≡◌ {A = ℕ} 0 1 = cc in omega arith
     go (Some p) e = let z : ◌≡◌ {A = ℕ} 0 1 = cc in omega arith
 

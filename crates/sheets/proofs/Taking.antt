@@ -15,7 +15,7 @@ use Rattle.sources.specs.Holding.{legal_small, met}
 use Rattle.sheets.specs.declared.words.Word.{Word}
 use Rattle.sheets.specs.declared.words.Word.TheVariants.{Head, Price, Upset, Outcome, Stray}
 use Rattle.sheets.specs.declared.rows.Awaited.{Awaited}
-use Rattle.sheets.specs.declared.rows.Awaited.TheVariants.{Head as aHead, Outcome as anOutcome, Upset as anUpset, Price as aPrice, Nothing as nothing}
+use Rattle.sheets.specs.declared.rows.Awaited.TheVariants.{Head as a_head, Outcome as an_outcome, Upset as an_upset, Price as a_price, Nothing as nothing}
 use Rattle.sheets.specs.declared.rows.Said.{Said}
 use Rattle.sheets.specs.declared.rows.Said.TheVariants.{Head as field, Row as row}
 use Rattle.sheets.specs.Places.{has_row, next_row}
@@ -274,27 +274,27 @@ module _ (n m : ℕ) (k : SourceKind) where
   price_no_head true true false false a b f h = never_head _ _ _ h
   price_no_head true true false true a b f h = no_head _ _ _ _ _ h
 
-  pub head_legal : (x : Awaited) (word : Word) → judged n x word ≡ Ok (field m k) → (x ≡ aHead) × (legal m ≡ true)
-  head_legal aHead (Head size source) h = (refl, sourced_legal size source (legal size) refl h)
-  head_legal aHead (Price w l price never) h = never_head _ _ _ h
-  head_legal aHead (Upset w l) h = never_head _ _ _ h
-  head_legal aHead (Outcome w l) h = never_head _ _ _ h
-  head_legal aHead Stray h = never_head _ _ _ h
-  head_legal (anOutcome a b) (Outcome w l) h = outcome_no_head (opponents n w l) (eqb w a && eqb l b) (eqb w b && eqb l a) a b h
-  head_legal (anOutcome a b) (Head size source) h = never_head _ _ _ h
-  head_legal (anOutcome a b) (Price w l price never) h = never_head _ _ _ h
-  head_legal (anOutcome a b) (Upset w l) h = never_head _ _ _ h
-  head_legal (anOutcome a b) Stray h = never_head _ _ _ h
-  head_legal (anUpset from) (Upset w l) h = upset_no_head (opponents n w l) (ltb w l || ltb (w * 16 + l) from) w l h
-  head_legal (anUpset from) (Head size source) h = never_head _ _ _ h
-  head_legal (anUpset from) (Price w l price never) h = never_head _ _ _ h
-  head_legal (anUpset from) (Outcome w l) h = never_head _ _ _ h
-  head_legal (anUpset from) Stray h = never_head _ _ _ h
-  head_legal (aPrice a b other) (Price w l price never) h = price_no_head (opponents n w l) (eqb w a && eqb l b) (ltb 1000000 price || (never && not (eqb price 0))) (free (read_fact price never) || free other) w l (read_fact price never, other) h
-  head_legal (aPrice a b other) (Head size source) h = never_head _ _ _ h
-  head_legal (aPrice a b other) (Upset w l) h = never_head _ _ _ h
-  head_legal (aPrice a b other) (Outcome w l) h = never_head _ _ _ h
-  head_legal (aPrice a b other) Stray h = never_head _ _ _ h
+  pub head_legal : (x : Awaited) (word : Word) → judged n x word ≡ Ok (field m k) → (x ≡ a_head) × (legal m ≡ true)
+  head_legal a_head (Head size source) h = (refl, sourced_legal size source (legal size) refl h)
+  head_legal a_head (Price w l price never) h = never_head _ _ _ h
+  head_legal a_head (Upset w l) h = never_head _ _ _ h
+  head_legal a_head (Outcome w l) h = never_head _ _ _ h
+  head_legal a_head Stray h = never_head _ _ _ h
+  head_legal (an_outcome a b) (Outcome w l) h = outcome_no_head (opponents n w l) (eqb w a && eqb l b) (eqb w b && eqb l a) a b h
+  head_legal (an_outcome a b) (Head size source) h = never_head _ _ _ h
+  head_legal (an_outcome a b) (Price w l price never) h = never_head _ _ _ h
+  head_legal (an_outcome a b) (Upset w l) h = never_head _ _ _ h
+  head_legal (an_outcome a b) Stray h = never_head _ _ _ h
+  head_legal (an_upset from) (Upset w l) h = upset_no_head (opponents n w l) (ltb w l || ltb (w * 16 + l) from) w l h
+  head_legal (an_upset from) (Head size source) h = never_head _ _ _ h
+  head_legal (an_upset from) (Price w l price never) h = never_head _ _ _ h
+  head_legal (an_upset from) (Outcome w l) h = never_head _ _ _ h
+  head_legal (an_upset from) Stray h = never_head _ _ _ h
+  head_legal (a_price a b other) (Price w l price never) h = price_no_head (opponents n w l) (eqb w a && eqb l b) (ltb 1000000 price || (never && not (eqb price 0))) (free (read_fact price never) || free other) w l (read_fact price never, other) h
+  head_legal (a_price a b other) (Head size source) h = never_head _ _ _ h
+  head_legal (a_price a b other) (Upset w l) h = never_head _ _ _ h
+  head_legal (a_price a b other) (Outcome w l) h = never_head _ _ _ h
+  head_legal (a_price a b other) Stray h = never_head _ _ _ h
   head_legal nothing word h = never_head _ _ _ h
 
 -- a head is no row

@@ -8,7 +8,7 @@ use Rattle.sources.specs.declared.kind.SourceKind.TheVariants.{Matrix, Order, Br
 use Rattle.sheets.specs.declared.words.Word.{Word}
 use Rattle.sheets.specs.declared.words.Word.TheVariants.{Head, Price, Upset, Outcome, Stray}
 use Rattle.sheets.specs.declared.rows.Awaited.{Awaited}
-use Rattle.sheets.specs.declared.rows.Awaited.TheVariants.{Head as aHead, Outcome as anOutcome, Upset as anUpset, Price as aPrice, Nothing as nothing}
+use Rattle.sheets.specs.declared.rows.Awaited.TheVariants.{Head as a_head, Outcome as an_outcome, Upset as an_upset, Price as a_price, Nothing as nothing}
 use Rattle.sheets.specs.declared.rows.Said.{Said}
 use Rattle.sheets.specs.declared.rows.Said.TheVariants.{Head as field, Row as row}
 
@@ -70,8 +70,8 @@ judged_price n winner loser other Stray = Err WordNotAwaited
 
 -- of n entrants
 abbrev pub judged : ℕ → Awaited → Word → Result Said Refusal
-judged n aHead word = judged_head word
-judged n (anOutcome lower higher) word = judged_outcome n lower higher word
-judged n (anUpset from) word = judged_upset n from word
-judged n (aPrice winner loser other) word = judged_price n winner loser other word
+judged n a_head word = judged_head word
+judged n (an_outcome lower higher) word = judged_outcome n lower higher word
+judged n (an_upset from) word = judged_upset n from word
+judged n (a_price winner loser other) word = judged_price n winner loser other word
 judged n nothing word = Err WordCountWrong

@@ -17,7 +17,7 @@ certain (Some price) (Some other) = false
 
 -- what a matrix of n entrants means, by whether the lower number wins at each place
 abbrev pub matrix_sheet : ℕ → List Bool → Sheet
-matrix_sheet n lowerWins = held_sheet (λ a b. certain) n (map result lowerWins)
+matrix_sheet n lower_wins = held_sheet (λ a b. certain) n (map result lower_wins)
 
 -- the sheet of n entrants on which the lower number wins every match
 abbrev pub lower_wins_all : ℕ → Sheet

@@ -4,7 +4,7 @@ ghost use Rattle.std.specs.Prelude.{◌≡◌, ◌<◌, ◌≤◌, true, map, le
 ghost use Rattle.facts.specs.Fields.{legal};
 ghost use Rattle.facts.specs.Outcomes.{Answered};
 ghost use Rattle.figures.specs.Fields.{Field};
-ghost use Rattle.figures.specs.Figures.{figure as figureOf};
+ghost use Rattle.figures.specs.Figures.{figure as figure_of};
 ghost use Rattle.cells.specs.Renewal.{cell_of};
 ghost use Rattle.cells.specs.Rooms.{needed};
 ghost use Rattle.table.specs.Fillings.{InOrder};
@@ -44,7 +44,7 @@ impl<V: Algebra> Complete<V> {
     // The figure of an entrant: his cell in the set of all.
     pub fn figure(&self, cells: &mut Cells<V>, entrant: usize) -> Result<V, Refusal>
         ensures means_what_his_cell_does_or_is_the_first_refusal { Answered (figure_refusal self.now.size (length cells.old.memory.now) entrant) (λ v. V.Algebra.means v ≡ cell_of V.Algebra.semiring self.now.size (map V.Algebra.means cells.old.memory.now) (everybody self.now.size) entrant) result }
-        ensures on_a_table_in_order_means_his_figure { (f : Field) → f.size ≡ self.now.size → InOrder V.Algebra.semiring f (map V.Algebra.means cells.old.memory.now) → Answered (figure_refusal self.now.size (length cells.old.memory.now) entrant) (λ v. V.Algebra.means v ≡ figureOf V.Algebra.semiring f (everybody f.size) entrant) result }
+        ensures on_a_table_in_order_means_his_figure { (f : Field) → f.size ≡ self.now.size → InOrder V.Algebra.semiring f (map V.Algebra.means cells.old.memory.now) → Answered (figure_refusal self.now.size (length cells.old.memory.now) entrant) (λ v. V.Algebra.means v ≡ figure_of V.Algebra.semiring f (everybody f.size) entrant) result }
         ensures changes_nothing { cells.new.memory.now ≡ cells.old.memory.now }
         ensures stays_over_that_memory { cells.new.memory.ghost_name ≡ cells.old.memory.ghost_name }
     {
@@ -59,7 +59,7 @@ impl<V: Algebra> Complete<V> {
     // The sum of all entrants' figures.
     pub fn tally(&self, cells: &mut Cells<V>) -> Result<V, Refusal>
         ensures means_the_sum_of_all_cells_or_is_the_refusal { Answered (room_refusal self.now.size (length cells.old.memory.now)) (λ v. V.Algebra.means v ≡ tally_of V.Algebra.semiring self.now.size (cell_of V.Algebra.semiring self.now.size (map V.Algebra.means cells.old.memory.now))) result }
-        ensures on_a_table_in_order_means_the_sum_of_all_figures { (f : Field) → f.size ≡ self.now.size → InOrder V.Algebra.semiring f (map V.Algebra.means cells.old.memory.now) → Answered (room_refusal self.now.size (length cells.old.memory.now)) (λ v. V.Algebra.means v ≡ tally_of V.Algebra.semiring f.size (figureOf V.Algebra.semiring f)) result }
+        ensures on_a_table_in_order_means_the_sum_of_all_figures { (f : Field) → f.size ≡ self.now.size → InOrder V.Algebra.semiring f (map V.Algebra.means cells.old.memory.now) → Answered (room_refusal self.now.size (length cells.old.memory.now)) (λ v. V.Algebra.means v ≡ tally_of V.Algebra.semiring f.size (figure_of V.Algebra.semiring f)) result }
         ensures changes_nothing { cells.new.memory.now ≡ cells.old.memory.now }
         ensures stays_over_that_memory { cells.new.memory.ghost_name ≡ cells.old.memory.ghost_name }
     {

@@ -4,7 +4,7 @@ ghost use Rattle.facts.specs.Fields.{legal};
 ghost use Rattle.facts.specs.Outcomes.{Answered};
 ghost use Rattle.algebra.specs.Possibilities.{possibilities};
 ghost use Rattle.figures.specs.Fields.{Field};
-ghost use Rattle.figures.specs.Figures.{figure as figureOf};
+ghost use Rattle.figures.specs.Figures.{figure as figure_of};
 ghost use Rattle.cells.specs.Renewal.{cell_of};
 ghost use Rattle.cells.specs.Rooms.{needed};
 ghost use Rattle.table.specs.Fillings.{InOrder};
@@ -37,7 +37,7 @@ impl Complete<Possibility> {
     // The set of those who can win, as its number.
     pub fn winners(&self, cells: &mut Cells<Possibility>) -> Result<u32, Refusal>
         ensures are_those_whose_cells_mean_yes_or_the_first_refusal { Answered (winners_refusal self.now.size (length cells.old.memory.now) (winners_of self.now.size (cell_of possibilities self.now.size (map (λ p. p.possible) cells.old.memory.now)))) (λ s. s ≡ winners_of self.now.size (cell_of possibilities self.now.size (map (λ p. p.possible) cells.old.memory.now))) result }
-        ensures on_a_table_in_order_are_those_who_can_win { (f : Field) → f.size ≡ self.now.size → InOrder possibilities f (map (λ p. p.possible) cells.old.memory.now) → Answered (winners_refusal f.size (length cells.old.memory.now) (winners_of f.size (figureOf possibilities f))) (λ s. s ≡ winners_of f.size (figureOf possibilities f)) result }
+        ensures on_a_table_in_order_are_those_who_can_win { (f : Field) → f.size ≡ self.now.size → InOrder possibilities f (map (λ p. p.possible) cells.old.memory.now) → Answered (winners_refusal f.size (length cells.old.memory.now) (winners_of f.size (figure_of possibilities f))) (λ s. s ≡ winners_of f.size (figure_of possibilities f)) result }
         ensures changes_nothing { cells.new.memory.now ≡ cells.old.memory.now }
         ensures stays_over_that_memory { cells.new.memory.ghost_name ≡ cells.old.memory.ghost_name }
     {

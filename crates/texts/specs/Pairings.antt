@@ -10,8 +10,8 @@ fact_text (Some price) = cond (price == 0) (codes "free") (decimal price)
 
 -- four texts side by side, each at the right end of its column: 5, 6, 10 and 11 wide, two spaces between
 abbrev pub table_row : List ℕ → List ℕ → List ℕ → List ℕ → List ℕ
-table_row first second firstWins secondWins =
-    aligned 5 first ++ (codes "  " ++ (aligned 6 second ++ (codes "  " ++ (aligned 10 firstWins ++ (codes "  " ++ aligned 11 secondWins)))))
+table_row first second first_wins second_wins =
+    aligned 5 first ++ (codes "  " ++ (aligned 6 second ++ (codes "  " ++ (aligned 10 first_wins ++ (codes "  " ++ aligned 11 second_wins)))))
 
 -- the titles over the columns
 abbrev pub pairing_header : List ℕ
