@@ -1,6 +1,6 @@
 -- Two maps of meanings that keep the operations. Assumes nothing.
-use Rattle.std.specs.Prelude.{◌≡◌, ℕ, zero, suc, ◌+◌, ◌*◌, min, ◌&&◌, ◌||◌, Some, None, Option, nat_lt, refl}
-use Rattle.std.proofs.Common.{◌∙◌, arith, rules}
+use Rattle.std.specs.Prelude.{◌≡◌, ℕ, zero, suc, ◌+◌, ◌*◌, min, ◌&&◌, ◌||◌, Option, nat_lt, refl}
+use Rattle.std.proofs.Common.{◌∙◌, arith}
 use Rattle.std.proofs.lemmas.Bool.Decides.{nat_tests}
 use Rattle.facts.specs.Facts.{free}
 use Rattle.algebra.specs.Semirings.{Keeps}
@@ -18,8 +18,7 @@ draw_times (suc x) zero = grind (arith, nat_tests)
 draw_times (suc x) (suc y) = grind (arith, nat_tests)
 
 draw_weight : (fact : Option ℕ) → any_draw (drawing.weight fact) ≡ free fact
-draw_weight None = refl
-draw_weight (Some price) = search rules
+draw_weight fact = grind (arith, nat_tests)
 
 pub any_draw_keeps : Keeps drawing possibilities any_draw
 any_draw_keeps = record {
@@ -31,18 +30,13 @@ any_draw_keeps = record {
 }
 
 free_payable : (p : Option ℕ) → free (payable p) ≡ free p
-free_payable None = refl
-free_payable (Some price) = grind (arith, nat_tests)
+free_payable p = grind (arith, nat_tests)
 
 free_cheaper : (p q : Option ℕ) → free (cheaper p q) ≡ (free p || free q)
-free_cheaper None q = refl
-free_cheaper (Some p) None = grind (arith, nat_tests)
-free_cheaper (Some p) (Some q) = grind (arith, nat_tests)
+free_cheaper p q = grind (arith, nat_tests)
 
 free_together : (p q : Option ℕ) → free (together p q) ≡ (free p && free q)
-free_together None q = refl
-free_together (Some p) None = grind (arith, nat_tests)
-free_together (Some p) (Some q) = grind (arith, nat_tests)
+free_together p q = grind (arith, nat_tests)
 
 pub unpaid_keeps : Keeps bribing possibilities unpaid
 unpaid_keeps = record {

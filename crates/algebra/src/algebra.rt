@@ -28,6 +28,7 @@ pub trait Algebra: Copy {
     fn times(self, other: Self) -> Self
         ensures means_the_product { means result ≡ semiring.times (means self) (means other) };
 
+    // No `==`: two values may mean the same and yet differ.
     fn same(self, other: Self) -> bool
         ensures says_whether_both_mean_the_same { result ≡ semiring.same (means self) (means other) };
 

@@ -1,10 +1,12 @@
 // Draws: in how many ways something can come about, counted up to a top.
+#![tactic(auto, using(crate::specs::Counts::same_count, crate::specs::Cuts::cut_factors))]
+
 ghost use Rattle.std.specs.Prelude.{◌≡◌, ◌≤◌, Some, decimal};
 ghost use Rattle.algebra.specs.Drawing.{Count, counted, drawing};
 ghost use Rattle.algebra.specs.Counts.{counts_lawful};
 
 use crate::algebra::Algebra;
-use facts::prices::Fact;
+use facts::prices::{Fact, is_free};
 use std::fmt;
 
 // Stands for that many draws or more.
@@ -17,6 +19,7 @@ pub struct Draws {
 }
 
 impl Draws {
+    // No `From`: a count above the top is cut, and a conversion should lose nothing.
     pub fn new(count: u32) -> Draws
         ensures is_the_count_cut_at_the_top { counted result.count ≡ counted count }
     {
@@ -25,6 +28,7 @@ impl Draws {
         }
     }
 
+    // No `From`: the name says what is told.
     pub fn count(self) -> u32
         ensures is_the_number_meant { result ≡ (counted self.count).number }
     {
@@ -68,9 +72,8 @@ impl Algebra for Draws {
     }
 
     fn weight(fact: Fact) -> Draws {
-        match fact {
-            Some(price) if price == 0 => Draws { count: 1 },
-            _ => Draws { count: 0 },
+        Draws {
+            count: u32::from(is_free(fact)),
         }
     }
 }

@@ -1,4 +1,5 @@
-// Passages: what a figure of one algebra tells in another.
+// Passages: what a figure of one algebra tells in another. They are no `From`, since a passage also
+// brings the law that it keeps the operations.
 ghost use Rattle.std.specs.Prelude.{◌≡◌, refl};
 ghost use Rattle.std.proofs.Common.{ap};
 ghost use Rattle.algebra.specs.Drawing.{counted};

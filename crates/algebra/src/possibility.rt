@@ -5,7 +5,7 @@ ghost use Rattle.algebra.specs.Chances.{possibilities_lawful, possibilities_choo
 
 use crate::algebra::Algebra;
 use crate::choosing::Choosing;
-use facts::prices::Fact;
+use facts::prices::{Fact, is_free};
 use std::fmt;
 
 #[derive(Clone, Copy, PartialEq, Eq, Debug)]
@@ -14,6 +14,7 @@ pub struct Possibility {
 }
 
 impl Possibility {
+    // No `From`: the names here and below say what the `bool` tells, which a conversion would not.
     pub fn new(possible: bool) -> Possibility
         ensures is_yes_where_it_is_possible { result.possible ≡ possible }
     {
@@ -61,9 +62,8 @@ impl Algebra for Possibility {
     }
 
     fn weight(fact: Fact) -> Possibility {
-        match fact {
-            Some(price) if price == 0 => Possibility { possible: true },
-            _ => Possibility { possible: false },
+        Possibility {
+            possible: is_free(fact),
         }
     }
 }

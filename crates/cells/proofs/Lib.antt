@@ -1,6 +1,4 @@
 pub mod Parts
-pub mod Kept
-pub mod Lowering
 pub mod Steps
 pub mod Adding
 pub mod Renewing

@@ -76,11 +76,3 @@ module _ {V M : Type 0} (A : Semiring M) (L : LawfulSemiring A) (means : V → M
   -- of every other size, the cells that are right stay so
   pub stays : (k : ℕ) → (size ≡ 2 ^ k → ⊥) → Right A f n k (map means before) → Right A f n k (map means after)
   stays k z p s w h o t = kept_cell s w h t (λ e _. z (sym e ∙ o)) ∙ p s w h o t
-
--- where nobody must be there, a refresh makes all of the next size right
-pub lifts_all : {V M : Type 0} (A : Semiring M) → LawfulSemiring A → (means : V → M) (f : Field) (n k : ℕ) (before after : List V)
-    → f.size ≡ n → 0 < n → 2 ^ n * n ≤ length before
-    → Renewal A means n (of_level n (2 ^ suc k) 0) (by_halves A f (cell_of A n (map means before))) before after
-    → Right A f n k (map means before) → Right A f n (suc k) (map means after)
-lifts_all A L means f n k before after sized some fits r p =
-    lifts A L means f n (2 ^ suc k) 0 before after sized some fits r k refl p (but_none A f n (suc k) (map means before))

@@ -1,39 +1,18 @@
 -- Parts of a set that hold an entrant, and parts of the others. Assumes nothing.
-use Rattle.std.proofs.Common.{◌≡◌, ℕ, zero, suc, ◌+◌, ◌-◌, ◌*◌, ◌/◌, ◌^◌, ◌≤◌, true, sym, refl, ap, ◌∙◌, le_refl, arith}
-use lib.Arith.{half_le}
-use lib.Bits.{bit_and, and_step, and_comm}
+use Rattle.std.proofs.Common.{◌≡◌, ℕ, ◌+◌, ◌-◌, ◌^◌, true, sym, ap, ◌∙◌, arith}
+use lib.Bits.{bit_and, and_comm}
+use Rattle.std.proofs.lemmas.Nat.{and_assoc}
 use Rattle.figures.specs.Sets.{has}
-use Rattle.figures.proofs.Bits.{Part, part_low, part_rest, part_le, part_sub, part_sum, part_apart, bit_sub, bit_true, true_bit, bit_pow}
-use Rattle.figures.proofs.Loops.{and_pow}
-
-part_trans_in : (d a b c : ℕ) → a ≤ d → Part a b → Part b c → Part a c
-part_trans_in zero a b c l p q =
-    let z : a ≡ 0 = omega arith in
-    rw z refl
-part_trans_in (suc d) a b c l p q =
-    let ih = part_trans_in d (a / 2) (b / 2) (c / 2) (half_le l) (part_rest a b p) (part_rest b c q) in
-    and_step a c ∙ rw ih (omega (arith, part_low a b p, part_low b c q))
+use Rattle.figures.proofs.Bits.{Part, part_le, part_sub, part_sum, part_apart, bit_sub, bit_true, true_bit, bit_pow}
+use Rattle.figures.proofs.Members.{one_part}
 
 -- a part of a part is a part
 part_trans : (a b c : ℕ) → Part a b → Part b c → Part a c
-part_trans a b c p q = part_trans_in a a b c (le_refl a) p q
-
-apart_part_in : (d a b c : ℕ) → a ≤ d → Part b c → bit_and a c ≡ 0 → bit_and a b ≡ 0
-apart_part_in zero a b c l p q =
-    let z : a ≡ 0 = omega arith in
-    rw z refl
-apart_part_in (suc d) a b c l p q =
-    let st = and_step a c in
-    let ih = apart_part_in d (a / 2) (b / 2) (c / 2) (half_le l) (part_rest b c p) (omega arith) in
-    and_step a b ∙ rw ih (omega (arith, part_low b c p))
+part_trans a b c p q = ap (λ (x : ℕ). bit_and x c) (sym p) ∙ and_assoc c a b ∙ ap (bit_and a) q ∙ p
 
 -- who shares nobody with c shares nobody with a part of c
 apart_part : (a b c : ℕ) → Part b c → bit_and a c ≡ 0 → bit_and a b ≡ 0
-apart_part a b c p q = apart_part_in a a b c (le_refl a) p q
-
--- a member alone is a part
-pub one_part : (s e : ℕ) → has s e ≡ true → Part (2 ^ e) s
-one_part s e h = and_comm (2 ^ e) s ∙ and_pow s e ∙ ap (λ (x : ℕ). x * 2 ^ e) (bit_true s e h) ∙ omega arith
+apart_part a b c p q = ap (bit_and a) (sym p ∙ and_comm b c) ∙ sym (and_assoc b a c) ∙ ap (λ (x : ℕ). bit_and x b) q
 
 -- a part of the others is a part of the set
 pub others_part : (s e r : ℕ) → has s e ≡ true → Part r (s - 2 ^ e) → Part r s

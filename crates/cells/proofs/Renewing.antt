@@ -1,23 +1,25 @@
 -- One refresh after another. Assumes nothing.
-use Rattle.std.proofs.Common.{◌≡◌, ℕ, zero, suc, ◌+◌, ◌-◌, ◌*◌, ◌/◌, ◌%◌, ◌<◌, ◌≤◌, Bool, true, false, not, ◌&&◌, ◌||◌, eqb, ltb, ◌⊎◌, List, [], ◌∷◌, map, length, get_or, set, sym, refl, ap, ◌∙◌, subst, ap₂, inl, inr, arith, length-set, get_or-set_other, get_or-set_same}
-use lib.Bits.{bit_and}
+use Rattle.std.proofs.Common.{◌≡◌, ℕ, zero, suc, ◌+◌, ◌-◌, ◌*◌, ◌/◌, ◌%◌, ◌^◌, ◌<◌, ◌≤◌, Bool, true, false, ◌&&◌, ◌||◌, eqb, ltb, ◌⊎◌, List, [], ◌∷◌, ◌++◌, map, length, get_or, set, sym, refl, ap, ◌∙◌, subst, ap₂, inl, inr, arith, length-set, get_or-set_other, get_or-set_same}
 use lib.Count.{ones}
 use lib.Seq.{map-set}
 use Rattle.std.proofs.lemmas.Nat.{div-mul-add, mod-mul-add, mod_below, div-add-mod'}
+use Rattle.std.specs.List.{list_any}
 use Rattle.std.proofs.lemmas.List.{length-map}
+use Rattle.std.proofs.lemmas.List.Folds.{list_any-append}
 use Rattle.std.proofs.lemmas.Bool.{eqb-true, eq-eqb, ne_eqb, and_parts, and_from, and_right, or_parts, cases_eq, cases_lt, lt-ltb, le-ltb, both_ways}
 use Rattle.algebra.specs.Semirings.{Semiring}
-use Rattle.figures.specs.Sets.{has, Lowest, members, halves}
+use Rattle.figures.specs.Lists.{In}
+use Rattle.figures.specs.Sets.{has, members, halves, all_members}
 use Rattle.figures.proofs.Sums.{over_same_in}
 use Rattle.figures.proofs.Champions.{halves_in, members_in}
-use Rattle.figures.proofs.Bits.{half_parts, part_le, ones_sub, ones_some, bit_true}
+use Rattle.figures.proofs.Bits.{half_parts, part_le, ones_sub, ones_some, bit_true, member_lt}
 use Rattle.cells.specs.Renewal.{cell_of, weight_of, Renewal, of_set, wanted}
 use Rattle.cells.specs.Splits.{of_size, meeting, by_halves_with, sum_of}
-use Rattle.cells.proofs.Lowering.{off_itself, off_other, has_none}
+use Rattle.figures.proofs.Members.{all_in, in_all}
 
--- the members of s who are not left
-abbrev pub so_far : ℕ → ℕ → ℕ → ℕ → Bool
-so_far s left x y = eqb x s && (has s y && not (has left y))
+-- those entrants' cells of s that are written
+abbrev pub written : ℕ → List ℕ → ℕ → ℕ → Bool
+written s done x y = eqb x s && list_any (eqb y) done
 
 -- the members of the wanted sets below i
 abbrev pub sets_below : ℕ → ℕ → ℕ → ℕ → ℕ → Bool
@@ -137,45 +139,39 @@ ltb_more y w e = go (cases_lt y w)
     go (inl l) = lt-ltb y (w + 1) (omega arith) ∙ sym (lt-ltb y w l)
     go (inr l) = le-ltb y (w + 1) (let k : y ≡ w → ⊥ = e in omega arith) ∙ sym (le-ltb y w l)
 
-so_far_more : (s left w x y : ℕ) → Lowest left w → has s w ≡ true → so_far s (bit_and left (left - 1)) x y ≡ (so_far s left x y || (eqb x s && eqb y w))
-so_far_more s left w x y low h = go (cases_eq y w)
+written_more : (s : ℕ) (done : List ℕ) (w x y : ℕ) → written s (done ++ w ∷ []) x y ≡ (written s done x y || (eqb x s && eqb y w))
+written_more s done w x y = rw (list_any-append (eqb y) done (w ∷ [])) (go (eqb x s) (list_any (eqb y) done) (eqb y w))
   where
-    both : (p : Bool) → (p && (true && true)) ≡ ((p && (true && false)) || (p && true))
-    both true = refl
-    both false = refl
+    go : (p q r : Bool) → (p && (q || (r || false))) ≡ ((p && q) || (p && r))
+    go true true r = refl
+    go true false true = refl
+    go true false false = refl
+    go false q r = refl
 
-    same : (p q : Bool) → (p && q) ≡ ((p && q) || (p && false))
-    same true true = refl
-    same true false = refl
-    same false q = refl
-
-    go : (y ≡ w) ⊎ (y ≡ w → ⊥) → so_far s (bit_and left (left - 1)) x y ≡ (so_far s left x y || (eqb x s && eqb y w))
-    go (inl e) =
-        let a : has s y ≡ true = ap (has s) e ∙ h in
-        let b : has (bit_and left (left - 1)) y ≡ false = ap (has (bit_and left (left - 1))) e ∙ off_itself left w low in
-        let c : has left y ≡ true = ap (has left) e ∙ low.0 in
-        let d : eqb y w ≡ true = eq-eqb y w e in
-        rw (a, b, c, d) (both (eqb x s))
-    go (inr e) =
-        let b : has (bit_and left (left - 1)) y ≡ has left y = off_other left w low y e in
-        let d : eqb y w ≡ false = ne_eqb y w e in
-        rw (b, d) (same (eqb x s) (has s y && not (has left y)))
-
-so_far_none : (s x y : ℕ) → so_far s s x y ≡ false
-so_far_none s x y = go (eqb x s) (has s y)
+any_in : (y : ℕ) (xs : List ℕ) → list_any (eqb y) xs ≡ true → In y xs
+any_in y [] h = absurd (both_ways false refl h)
+any_in y (x ∷ xs) h = go (any_in y xs) (eqb y x) refl h
   where
-    go : (p q : Bool) → (p && (q && not q)) ≡ false
-    go true true = refl
-    go true false = refl
-    go false q = refl
+    go : (list_any (eqb y) xs ≡ true → In y xs) → (b : Bool) → eqb y x ≡ b → (b || list_any (eqb y) xs) ≡ true → (y ≡ x) ⊎ In y xs
+    go ih true e k = inl (eqb-true y x e)
+    go ih false e k = inr (ih k)
 
-so_far_all : (s left x y : ℕ) → left ≡ 0 → of_set s x y ≡ so_far s left x y
-so_far_all s left x y z = rw (has_none left y z) (go (eqb x s) (has s y))
+in_any : (y : ℕ) (xs : List ℕ) → In y xs → list_any (eqb y) xs ≡ true
+in_any y [] h = absurd h
+in_any y (x ∷ xs) (inl e) = ap (λ b. b || list_any (eqb y) xs) (eq-eqb y x e)
+in_any y (x ∷ xs) (inr h) = ap (λ b. eqb y x || b) (in_any y xs h) ∙ or_right (eqb y x)
   where
-    go : (p q : Bool) → (p && q) ≡ (p && (q && true))
-    go true true = refl
-    go true false = refl
-    go false q = refl
+    or_right : (b : Bool) → (b || true) ≡ true
+    or_right true = refl
+    or_right false = refl
+
+written_all : (n s x y : ℕ) → n ≤ 32 → s < 2 ^ n → of_set s x y ≡ written s (all_members s) x y
+written_all n s x y few h = ap (λ b. eqb x s && b) (go (has s y) refl (list_any (eqb y) (all_members s)) refl)
+  where
+    go : (a : Bool) → has s y ≡ a → (b : Bool) → list_any (eqb y) (all_members s) ≡ b → has s y ≡ list_any (eqb y) (all_members s)
+    go true p b q = p ∙ sym (in_any y (all_members s) (in_all s y p (omega (arith, member_lt n s y h (bit_true s y p)))))
+    go false p true q = absurd (both_ways (has s y) p (all_in s y (any_in y (all_members s) q)).0)
+    go false p false q = p ∙ sym q
 
 pub below_yes : (size must i x y : ℕ) → true ≡ wanted size must i → sets_below size must (i + 1) x y ≡ (sets_below size must i x y || of_set i x y)
 below_yes size must i x y h = go (cases_eq x i)
@@ -215,27 +211,21 @@ below_no size must i x y h = go (cases_eq x i)
 -- ---- a loop's step
 
 module _ {V M : Type 0} (A : Semiring M) (means : V → M) (n : ℕ) (some : 0 < n) (grid : List V) where
-  -- no cell of s yet
-  pub no_cells : (s : ℕ) (xs : List V) → Renewal A means n (so_far s s) (sum_of A means n grid xs) xs xs
-  no_cells s xs = record {
-    same_length = refl;
-    fresh = λ i l h. absurd (both_ways (so_far s s (i / n) (i % n)) (so_far_none s (i / n) (i % n)) h);
-    held = λ i d h. refl;
-  }
-
   -- one cell of s more
-  pub put_cell : (s left w : ℕ) (v : V) (xs ys : List V) → w < n → s * n + w < length ys → Lowest left w → has s w ≡ true
-      → Renewal A means n (so_far s left) (sum_of A means n grid xs) xs ys → means v ≡ sum_of A means n grid xs s w
-      → Renewal A means n (so_far s (bit_and left (left - 1))) (sum_of A means n grid xs) xs (set ys (s * n + w) v)
-  put_cell s left w v xs ys l u low h r e =
-      after A means n some (so_far s left) (λ x y. eqb x s && eqb y w) (so_far s (bit_and left (left - 1))) (sum_of A means n grid xs) (sum_of A means n grid xs) xs ys (set ys (s * n + w) v) r
+  pub put_cell : (s w : ℕ) (done : List ℕ) (v : V) (xs ys : List V) → w < n → s * n + w < length ys
+      → Renewal A means n (written s done) (sum_of A means n grid xs) xs ys → means v ≡ sum_of A means n grid xs s w
+      → Renewal A means n (written s (done ++ w ∷ [])) (sum_of A means n grid xs) xs (set ys (s * n + w) v)
+  put_cell s w done v xs ys l u r e =
+      after A means n some (written s done) (λ x y. eqb x s && eqb y w) (written s (done ++ w ∷ [])) (sum_of A means n grid xs) (sum_of A means n grid xs) xs ys (set ys (s * n + w) v) r
       (wrote A means n some s w v (sum_of A means n grid xs) ys l u e)
-      (λ x y k q. refl) (λ x y k. so_far_more s left w x y low h)
+      (λ x y k q. refl) (λ x y k. written_more s done w x y)
 
   -- all cells of s
-  pub all_cells : (s left : ℕ) (xs ys : List V) → left ≡ 0 → Renewal A means n (so_far s left) (sum_of A means n grid xs) xs ys
-      → Renewal A means n (of_set s) (sum_of A means n grid xs) xs ys
-  all_cells s left xs ys z r = same_due A means n some (so_far s left) (of_set s) (sum_of A means n grid xs) xs ys r (λ x y k. so_far_all s left x y z)
+  pub all_cells : (s : ℕ) (done : List ℕ) (xs ys : List V) → n ≤ 32 → s < 2 ^ n → done ≡ all_members s
+      → Renewal A means n (written s done) (sum_of A means n grid xs) xs ys → Renewal A means n (of_set s) (sum_of A means n grid xs) xs ys
+  all_cells s done xs ys few h z r =
+      same_due A means n some (written s done) (of_set s) (sum_of A means n grid xs) xs ys r
+      (λ x y k. written_all n s x y few h ∙ ap (λ (ws : List ℕ). written s ws x y) (sym z))
 
   -- one set more
   pub next_set : (size must i : ℕ) (xs ys zs : List V) → true ≡ wanted size must i → Renewal A means n (sets_below size must i) (sum_of A means n grid xs) xs ys

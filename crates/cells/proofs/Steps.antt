@@ -11,8 +11,9 @@ use Rattle.figures.proofs.Bits.{Part, part_le, part_sub, half_parts, half_from, 
 use Rattle.figures.proofs.Loops.{masked, next_part, next_less}
 use Rattle.cells.specs.Standing.{holding, from, Trying, LeftFrom, Start}
 use Rattle.cells.specs.Walks.{Due}
-use Rattle.cells.proofs.Parts.{one_part, others_part, others_leave, leaves_others}
-use Rattle.cells.proofs.Kept.{kept_skip, kept_last, kept_short}
+use Rattle.figures.proofs.Members.{one_part}
+use Rattle.cells.proofs.Parts.{others_part, others_leave, leaves_others}
+use Rattle.figures.proofs.Kept.{kept_skip, kept_last, kept_short}
 
 -- ---- the test
 
@@ -99,14 +100,6 @@ unfolding from
 from_end s e r z = ap (λ (x : ℕ). filter (holding s e) (range_with_len (s - r) x)) z
 
 -- ---- the first step
-
--- a set below 2 ^ n has no member from n on
-pub beyond : (n s e : ℕ) → s < 2 ^ n → n ≤ e → has s e ≡ false
-beyond n s e h l = go (has s e) refl
-  where
-    go : (b : Bool) → has s e ≡ b → b ≡ false
-    go false k = refl
-    go true k = let m = member_lt n s e h (bit_true s e k) in absurd (omega arith)
 
 -- from what the entrant alone leaves, all are left
 pub all_from : (f : Field) (s e : ℕ) → has s e ≡ true → halves f s e ≡ from s e (s - 2 ^ e)

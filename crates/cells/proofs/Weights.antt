@@ -8,7 +8,7 @@ use Rattle.algebra.specs.Semirings.{Semiring, LawfulSemiring}
 use Rattle.facts.specs.Fields.{opponents}
 use Rattle.facts.specs.Sheets.{Sheet, Lawful}
 use Rattle.figures.specs.Fields.{Field}
-use Rattle.cells.specs.Renewal.{weight_of, Weighed}
+use Rattle.cells.specs.Renewal.{weight_of}
 use Rattle.cells.specs.Asking.{WeighedBelow}
 
 -- nobody beats himself, and a win that nothing buys weighs nothing
@@ -33,7 +33,7 @@ module _ {V M : Type 0} (A : Semiring M) (means : V → M) (f : Field) where
   -- where the weights of a and b are put in as the sheet has them, one place more is right
   pub one_more : (grid : List V) (a b : ℕ) (x y : V) → f.size ≤ 16 → a ≤ b → b < f.size → 256 ≤ length grid
       → means x ≡ A.weight (f.beats a b) → means y ≡ A.weight (f.beats b a)
-      → WeighedBelow A f (map means grid) (a * 16 + b) → WeighedBelow A f (map means (set (set grid (a * 16 + b) x) (b * 16 + a) y)) (a * 16 + b + 1)
+      → WeighedBelow A f (map means grid) (a * 16 + b) → WeighedBelow A f (map means (set (set grid (a * 16 + b) x) (b * 16 + a) y)) (a * 16 + (b + 1))
   unfolding weight_of
   one_more grid a b x y small o below long forth back before w l p q r = go (cases_eq (w * 16 + l) (b * 16 + a)) (cases_eq (w * 16 + l) (a * 16 + b))
     where
@@ -67,10 +67,3 @@ module _ {V M : Type 0} (A : Semiring M) (means : V → M) (f : Field) where
   -- nothing stands between the end of a row and the next diagonal
   pub next_row_lem : (grid : List V) (a : ℕ) → f.size ≤ 16 → WeighedBelow A f (map means grid) (a * 16 + f.size) → WeighedBelow A f (map means grid) ((a + 1) * 16 + (a + 1))
   next_row_lem grid a small before w l p q r = before w l p q (omega arith)
-
-  pub none_below : (grid : List V) → WeighedBelow A f (map means grid) 0
-  none_below grid w l p q r = absurd (omega arith)
-
-  -- behind the last diagonal all are asked
-  pub all_asked : (grid : List V) (a : ℕ) → f.size ≤ a → f.size ≤ 16 → WeighedBelow A f (map means grid) (a * 16 + a) → Weighed A f (map means grid)
-  all_asked grid a end small before w b p q = before w b p q (omega arith)

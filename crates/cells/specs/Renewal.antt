@@ -1,16 +1,9 @@
 -- A table of cells, and what a refresh makes of it.
-use Rattle.std.specs.Prelude.{◌≡◌, ℕ, ◌+◌, ◌*◌, ◌/◌, ◌%◌, ◌^◌, ◌<◌, ◌≤◌, Bool, true, false, ◌&&◌, List, map, length, ◌==◌, bit_and, count_ones, nat_lt, slice_index_or}
+use Rattle.std.specs.Prelude.{◌≡◌, ℕ, ◌+◌, ◌*◌, ◌/◌, ◌%◌, ◌^◌, ◌<◌, Bool, true, false, ◌&&◌, List, map, length, ◌==◌, bit_and, count_ones, nat_lt, slice_index_or}
 use Rattle.algebra.specs.Semirings.{Semiring}
 use Rattle.figures.specs.Fields.{Field}
 use Rattle.figures.specs.Sets.{has}
 use Rattle.figures.specs.Figures.{by_halves}
-
--- room for the cells of every set of n entrants, and for a grid of weights, sixteen to a row
-pub record Room (n cells grid : ℕ) : Type 0 where
-  pub some : 0 < n
-  pub few : n ≤ 16
-  pub cells_fit : 2 ^ n * n ≤ cells
-  pub grid_fits : 256 ≤ grid
 
 module _ {M : Type 0} (A : Semiring M) where
   -- the cell of the set s and the entrant w, among n entrants

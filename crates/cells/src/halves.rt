@@ -1,11 +1,12 @@
 // The halves of a set that hold an entrant, one after the other.
 ghost use Rattle.std.specs.Prelude.{◌≡◌, ◌<◌};
-ghost use Rattle.figures.specs.Sets.{has};
 ghost use Rattle.cells.specs.Standing.{Trying, LeftFrom, Start};
 ghost use Rattle.cells.specs.Walks.{AllAhead, FirstGiven, RestTold, PlaceTold, Due, Step, many_ahead};
 ghost use Rattle.std.specs.Iterator.{at_most};
 
-#[derive(Clone, Copy)]
+use figures::sets::holds;
+
+#[derive(Clone, Copy, PartialEq, Eq, Debug)]
 pub struct Half {
     pub set: u32,
     // the other half
@@ -31,17 +32,11 @@ pub struct Halves {
     ghost left: { LeftFrom set entrant rest place },
 }
 
-fn is_member(set: u32, entrant: u32) -> bool
-    ensures says_whether_he_is_a_member { result ≡ has set entrant }
-{
-    entrant < 32 && (set >> entrant) % 2 == 1
-}
-
 // The set without the entrant, and the empty set where no half holds the entrant.
 fn others_of(set: u32, entrant: u32) -> u32
     ensures is_where_a_walk_begins { Start set entrant result }
 {
-    if is_member(set, entrant) && set.count_ones() % 2 == 0 {
+    if holds(set, entrant as usize) && set.count_ones() % 2 == 0 {
         set - (1 << entrant)
     } else {
         0
@@ -66,7 +61,8 @@ impl Halves {
         }
     }
 
-    // What the next half leaves of the set, and the empty set where no half is ahead.
+    // What the next half leaves of the set, and the empty set where no half is ahead. Each part of the
+    // others is followed by the next smaller one, so that this is no walk by an index.
     fn due(&self) -> u32
         ensures is_what_the_next_half_leaves { Due self.now.set self.now.entrant self.now.others self.now.wanted self.now.rest result }
     {
@@ -77,6 +73,7 @@ impl Halves {
         rest
     }
 
+    // No plainer as the iterator's alone, which goes by this one: this promises more than that can.
     pub fn next(&mut self) -> Option<Half>
         ensures is_the_first_ahead_or_none_where_none_is { FirstGiven self.old.set self.old.entrant self.old.place result self.new.place }
         ensures place_is_its_index_among_the_halves { PlaceTold self.old.set self.old.entrant self.old.place result self.new.place }

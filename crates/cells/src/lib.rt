@@ -7,5 +7,6 @@ mod grid;
 pub mod halves;
 pub mod place;
 mod refresh;
+pub mod room;
 #[cfg(test)]
 mod tests;

@@ -1,11 +1,8 @@
 // Halves of small sets, with their places and rests.
 use crate::halves::{Half, Halves};
 
-fn told(half: Option<Half>) -> (u32, u32, usize) {
-    match half {
-        Some(half) => (half.set, half.rest, half.place),
-        None => (0, 0, 0),
-    }
+fn half(set: u32, rest: u32, place: usize) -> Option<Half> {
+    Some(Half { set, rest, place })
 }
 
 fn last_place(set: u32, entrant: u32) -> Option<usize> {
@@ -19,28 +16,25 @@ fn last_place(set: u32, entrant: u32) -> Option<usize> {
 #[test]
 fn halves_of_four_that_hold_the_lowest(rt: HostRuntime) {
     let mut walk = Halves::of(15, 0);
-    assert_eq!(rt; told(walk.next()), (3, 12, 0));
-    assert_eq!(rt; told(walk.next()), (5, 10, 1));
-    assert_eq!(rt; told(walk.next()), (9, 6, 2));
-    assert!(rt; walk.next().is_none());
-    assert!(rt; walk.next().is_none());
+    assert_eq!(rt; walk.next(), half(3, 12, 0));
+    assert_eq!(rt; walk.next(), half(5, 10, 1));
+    assert_eq!(rt; walk.next(), half(9, 6, 2));
+    assert_eq!(rt; walk.next(), None);
+    assert_eq!(rt; walk.next(), None);
 }
 
 #[test]
 fn halves_of_four_that_hold_another(rt: HostRuntime) {
     let mut walk = Halves::of(15, 2);
-    assert_eq!(rt; told(walk.next()), (5, 10, 0));
-    assert_eq!(rt; told(walk.next()), (6, 9, 1));
-    assert_eq!(rt; told(walk.next()), (12, 3, 2));
-    assert!(rt; walk.next().is_none());
+    assert_eq!(rt; walk.next(), half(5, 10, 0));
+    assert_eq!(rt; walk.next(), half(6, 9, 1));
+    assert_eq!(rt; walk.next(), half(12, 3, 2));
+    assert_eq!(rt; walk.next(), None);
 }
 
 #[test]
 fn halves_of_two_and_of_eight(rt: HostRuntime) {
-    assert_eq!(rt;
-        told(Halves::of(0x8000_0001, 31).next()),
-        (0x8000_0000, 1, 0)
-    );
+    assert_eq!(rt; Halves::of(0x8000_0001, 31).next(), half(0x8000_0000, 1, 0));
     assert_eq!(rt; last_place(0x8000_0001, 31), Some(0));
     assert_eq!(rt; last_place(0xff, 3), Some(34));
     assert_eq!(rt; last_place(0xaaaa, 15), Some(34));

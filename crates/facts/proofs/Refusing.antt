@@ -2,8 +2,9 @@
 use Rattle.std.proofs.Common.{◌≡◌, ℕ, ◌<◌, ◌≤◌, true, Some, None, Ok, Err, Option, Result, sym, refl, ap, subst, arith}
 use Rattle.std.proofs.lemmas.Bool.Decides.{nat_tests}
 use Rattle.facts.specs.declared.refusals.Refusal.{Refusal}
+use Rattle.facts.specs.declared.refused.Refused.{Refused}
 use Rattle.facts.specs.Fields.{legal}
-use Rattle.facts.specs.Outcomes.{Answered, HandedOn, Changed}
+use Rattle.facts.specs.Outcomes.{decided, Answered, HandedOn, Changed}
 
 -- a legal size is some number of entrants, sixteen at most
 pub legal_some : (n : ℕ) → legal n ≡ true → (0 < n) × (n ≤ 16)
@@ -46,13 +47,18 @@ pub handed_then : {X Y : Type 0} (good : X → Type 0) (moved : Y) (o : Option R
 handed_then good moved None x d = (refl, d)
 handed_then good moved (Some e) x d = absurd d
 
-pub handed_back : {X Y : Type 0} (good : X → Type 0) (moved : Y) (o : Option Refusal) (e : Y × Refusal) → HandedOn o good moved (Err e) → o ≡ Some e.1
+pub handed_back : {X Y : Type 0} (good : X → Type 0) (moved : Y) (o : Option Refusal) (e : Refused Y) → HandedOn o good moved (Err e) → o ≡ Some e.refusal
 handed_back good moved None e d = absurd d
 handed_back good moved (Some refusal) e d = ap {B = Option Refusal} (λ (r : Refusal). Some r) (sym d.1)
 
+-- what was not refused met no refusal
+pub passed : (o : Option Refusal) → ◌≡◌ {A = Result (Unit {0}) Refusal} (Ok tt) (decided o) → ◌≡◌ {A = Option Refusal} None o
+passed None e = refl
+passed (Some refusal) e = absurd (cc)
+
 -- a call is not both refused and not refused
 pub not_both : (o : Option Refusal) (e : Refusal) → o ≡ None → o ≡ Some e → ⊥
-not_both o e p q = let z : ◌≡◌ {A = ℕ} 0 1 = cc in omega arith
+not_both o e p q = cc
 
 -- the refusal of a call that is handed on
 pub answered_err : {X : Type 0} (good : X → Type 0) (o : Option Refusal) (r : Result X Refusal) (y e : Refusal) → r ≡ Err y → y ≡ e → o ≡ Some e → Answered o good r

@@ -1,5 +1,6 @@
 -- Each refusal, the number by which people know it, and which of several comes first.
 use Rattle.std.specs.Prelude.{ℕ, Bool, cond, List, [], ◌∷◌, Some, None, Option}
+use Rattle.facts.specs.Fields.{legal}
 use Rattle.facts.specs.declared.refusals.Refusal.{Refusal}
 use Rattle.facts.specs.declared.refusals.Refusal.TheVariants.{LengthNotWords, NotAHead, SizeNotAllowed, SourceUnknown, WordNotAwaited, EntrantsImpossible, EntrantsNotAwaited, PriceNotAllowed, SecondPriceNotFree, WordCountWrong, EntrantUnknown, EntrantsEqual, PriceAboveTop, NeitherSideFree, PairingNotCarried, MemoryTooShort, RecordLengthWrong, RecordWordMisplaced, LeafImpossible, MatchImpossible, SizesDiffer, NoWitness, NobodyCanWin, LevelsAllFilled, LevelMissing}
 
@@ -34,3 +35,7 @@ number_of LevelMissing = 35
 abbrev pub first_of : List (Bool × Refusal) → Option Refusal
 first_of [] = None
 first_of (check ∷ checks) = cond check.0 (Some check.1) (first_of checks)
+
+-- the refusal of a size that no knockout has
+abbrev pub size_refusal : ℕ → Option Refusal
+size_refusal n = cond (legal n) None (Some SizeNotAllowed)

@@ -1,35 +1,36 @@
 // When an amendment of a sheet is refused: one order of checks for every match source.
 ghost use Rattle.std.specs.Prelude.{◌≡◌};
 ghost use Rattle.facts.specs.Amendments.{first_refusal};
+ghost use Rattle.facts.specs.Outcomes.{decided};
 
 use crate::prices::{Fact, is_free, is_over_top};
 use crate::refusals::Refusal;
 
-// `carried` says whether the source in question carries such a pairing.
+// Refuses by the first reason that applies; `carried` says whether the source in question carries such a pairing.
 pub fn first_refusal(
     size: usize,
     a: usize,
     b: usize,
     facts: (Fact, Fact),
     carried: bool,
-) -> Option<Refusal>
-    ensures is_the_first_that_applies { result ≡ first_refusal size a b facts carried }
+) -> Result<(), Refusal>
+    ensures is_the_first_that_applies { result ≡ decided (first_refusal size a b facts carried) }
 {
     if a >= size || b >= size {
-        return Some(Refusal::EntrantUnknown);
+        return Err(Refusal::EntrantUnknown);
     }
     if a == b {
-        return Some(Refusal::EntrantsEqual);
+        return Err(Refusal::EntrantsEqual);
     }
     if is_over_top(facts.0) || is_over_top(facts.1) {
-        return Some(Refusal::PriceAboveTop);
+        return Err(Refusal::PriceAboveTop);
     }
     if !is_free(facts.0) && !is_free(facts.1) {
-        return Some(Refusal::NeitherSideFree);
+        return Err(Refusal::NeitherSideFree);
     }
     if carried {
-        None
+        Ok(())
     } else {
-        Some(Refusal::PairingNotCarried)
+        Err(Refusal::PairingNotCarried)
     }
 }

@@ -5,10 +5,7 @@ ghost use Rattle.facts.specs.Fields.{legal, opponents};
 pub fn is_legal_size(size: usize) -> bool
     ensures says_whether_a_knockout_has_that_many { result ≡ legal size }
 {
-    match size {
-        2 | 4 | 8 | 16 => true,
-        _ => false,
-    }
+    matches!(size, 2 | 4 | 8 | 16)
 }
 
 pub fn are_opponents(size: usize, a: usize, b: usize) -> bool

@@ -6,3 +6,5 @@ pub mod amendments;
 pub mod fields;
 pub mod prices;
 pub mod refusals;
+pub mod refused;
+pub mod sizes;

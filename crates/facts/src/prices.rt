@@ -1,4 +1,5 @@
-// A fact: what it takes for one entrant to beat another.
+// A fact: what it takes for one entrant to beat another. Facts are taken apart with guards, here and
+// in what weighs them: a rule of this project.
 ghost use Rattle.std.specs.Prelude.{◌≡◌};
 ghost use Rattle.facts.specs.Facts.{free, over_top};
 
@@ -10,17 +11,11 @@ pub const TOP_PRICE: u32 = 1_000_000;
 pub fn is_free(fact: Fact) -> bool
     ensures says_whether_the_win_costs_nothing { result ≡ free fact }
 {
-    match fact {
-        Some(price) if price == 0 => true,
-        _ => false,
-    }
+    matches!(fact, Some(price) if price == 0)
 }
 
 pub fn is_over_top(fact: Fact) -> bool
     ensures says_whether_the_price_is_above_the_top { result ≡ over_top fact }
 {
-    match fact {
-        Some(price) if price > TOP_PRICE => true,
-        _ => false,
-    }
+    matches!(fact, Some(price) if price > TOP_PRICE)
 }

@@ -1,9 +1,9 @@
 -- The figure of a single entrant. Assumes nothing.
-use Rattle.std.proofs.Common.{◌≡◌, ℕ, ◌^◌, ◌<◌, Bool, true, false, cond, eqb, ◌⊎◌, [], map, sym, refl, ap, ◌∙◌, inl, inr, arith}
+use Rattle.std.proofs.Common.{◌≡◌, ℕ, ◌^◌, cond, eqb, [], map, sym, ap, ◌∙◌, inl, inr}
 use lib.Count.{ones}
-use lib.Pow.{pow-lt}
 use Rattle.std.specs.List.{range_with_len}
-use Rattle.std.proofs.lemmas.Bool.{cases_order, cases_eq, eq-eqb, ne_eqb}
+use Rattle.std.proofs.lemmas.Bool.{cases_eq, eq-eqb, ne_eqb}
+use Rattle.std.proofs.lemmas.Nat.Bits.{bit_at-pow_other}
 use Rattle.algebra.specs.Semirings.{Semiring, LawfulSemiring}
 use Rattle.figures.specs.Sums.{over}
 use Rattle.figures.specs.Sets.{has, members}
@@ -13,23 +13,14 @@ use Rattle.figures.specs.Theorems.{OfOne}
 use Rattle.figures.proofs.Sums.{when, over_same, over_map, over_kept, pick_one}
 use Rattle.figures.proofs.Recurrence.{figure_when}
 use Rattle.figures.proofs.Halves.{figure_at}
-use Rattle.figures.proofs.Bits.{bit, bit_true, true_bit, bit_pow, ones_pow, ones_one}
+use Rattle.figures.proofs.Bits.{bit, true_bit, false_bit, bit_pow, ones_pow}
 
 has_pow : (e x : ℕ) → has (2 ^ e) x ≡ eqb e x
-has_pow e x = go (has (2 ^ e) x) refl (cases_eq e x)
-  where
-    same : (b : Bool) → e ≡ x → has (2 ^ e) x ≡ true
-    same b q = true_bit (2 ^ e) x (ap (λ (y : ℕ). bit (2 ^ e) y) (sym q) ∙ bit_pow e)
-
-    one_of : 2 ^ e ≡ 2 ^ x → (e ≡ x) ⊎ ((e < x) ⊎ (x < e)) → e ≡ x
-    one_of q (inl z) = z
-    one_of q (inr (inl z)) = let w : 2 ^ e < 2 ^ x = pow-lt z in absurd (omega arith)
-    one_of q (inr (inr z)) = let w : 2 ^ x < 2 ^ e = pow-lt z in absurd (omega arith)
-
-    go : (b : Bool) → has (2 ^ e) x ≡ b → (e ≡ x) ⊎ (e ≡ x → ⊥) → has (2 ^ e) x ≡ eqb e x
-    go b h (inl q) = same b q ∙ sym (eq-eqb e x q)
-    go true h (inr q) = absurd (q (one_of (ones_one x (2 ^ e) (bit_true (2 ^ e) x h) (ones_pow e)) (cases_order e x)))
-    go false h (inr q) = h ∙ sym (ne_eqb e x q)
+unfolding bit
+has_pow e x = elim (cases_eq e x) [
+  | inl q ↦ true_bit (2 ^ e) x (rw (← q) (bit_pow e)) ∙ sym (eq-eqb e x q)
+  | inr q ↦ false_bit (2 ^ e) x (bit_at-pow_other e x (λ z. q (sym z))) ∙ sym (ne_eqb e x q)
+]
 
 -- alone, an entrant is the champion
 pub of_one : {M : Type 0} (A : Semiring M) → LawfulSemiring A → OfOne A

@@ -1,10 +1,11 @@
 -- Parts of a set: the bits of s - a, where a is a part of s. Assumes nothing.
-use Rattle.std.proofs.Common.{◌≡◌, ℕ, zero, suc, ◌+◌, ◌-◌, ◌*◌, ◌/◌, ◌%◌, ◌^◌, ◌<◌, ◌≤◌, min, Bool, true, false, not, eqb, ◌⊎◌, sym, refl, ap, ◌∙◌, ap₂, inl, inr, le_refl, mod-lt, zero-lt-suc, mul_comm, pow-suc, arith}
-use native.Mathlib.Nat.{div-div-eq-div-mul}
-use lib.Bits.{bit_and, and_step, and_le_r}
+use Rattle.std.proofs.Common.{◌≡◌, ℕ, zero, suc, ◌+◌, ◌-◌, ◌*◌, ◌/◌, ◌%◌, ◌^◌, ◌<◌, ◌≤◌, true, false, not, eqb, sym, refl, ap, ◌∙◌, subst, inl, inr, arith}
+use lib.Bits.{bit_and, and_step, and_le_r, and_zero_l}
 use lib.Count.{ones, ones_step}
-use lib.Arith.{half_le}
-use Rattle.std.proofs.lemmas.Bool.{eqb-true, eqb-false, eq-eqb, and_parts, and_from, cases_eq}
+use lib.Arith.{bin_ind}
+use Rattle.std.proofs.lemmas.Nat.{zero_from_ones}
+use Rattle.std.proofs.lemmas.Nat.Bits.{bit_at_lowest, bit_at-suc, bit_at-zero, bit_at-lt, bit_at-pow_same, bit_at_above}
+use Rattle.std.proofs.lemmas.Bool.{eqb-true, eqb-false, eq-eqb, and_parts, and_from, cases_eq, cases_lt, cases_Bool}
 use Rattle.figures.specs.Sets.{has, sub, half}
 
 -- the digit of s at e
@@ -13,15 +14,15 @@ bit s e = s / 2 ^ e % 2
 
 pub bit_zero : (s : ℕ) → bit s 0 ≡ s % 2
 unfolding bit
-bit_zero s = omega arith
+bit_zero s = bit_at_lowest s
 
 pub bit_suc : (s e : ℕ) → bit s (suc e) ≡ bit (s / 2) e
 unfolding bit
-bit_suc s e = ap (λ (x : ℕ). x % 2) (ap (λ (x : ℕ). s / x) (pow-suc 2 e ∙ mul_comm (2 ^ e) 2) ∙ sym (div-div-eq-div-mul s 2 (2 ^ e)))
+bit_suc s e = bit_at-suc s e
 
 pub bit_lt : (s e : ℕ) → bit s e < 2
 unfolding bit
-bit_lt s e = mod-lt (s / 2 ^ e) (zero-lt-suc 1)
+bit_lt s e = bit_at-lt s e
 
 -- a is a part of s
 abbrev pub Part : ℕ → ℕ → Type 0
@@ -49,30 +50,24 @@ bit_sub zero a s h = rw (bit_zero (s - a), bit_zero a, bit_zero s) (low_sub a s 
 bit_sub (suc e) a s h =
     rw (bit_suc (s - a) e, bit_suc a e, bit_suc s e, half_sub a s h) (bit_sub e (a / 2) (s / 2) (part_rest a s h))
 
-ones_sub_in : (d a s : ℕ) → s ≤ d → Part a s → ones (s - a) + ones a ≡ ones s
-unfolding ones
-ones_sub_in zero a s l h =
-    let p : s ≡ 0 = omega arith in
-    let q : a ≡ 0 = omega (arith, part_le a s h) in
-    rw (p, q) refl
-ones_sub_in (suc d) a s l h =
-    let ih = ones_sub_in d (a / 2) (s / 2) (half_le l) (part_rest a s h) in
-    rw (ones_step (s - a), ones_step a, ones_step s, half_sub a s h) (omega (arith, low_sub a s h, ih))
+-- the empty set has no part but itself
+part_none : (P : ℕ → Type 0) → P 0 → (a : ℕ) → Part a 0 → P a
+part_none P here a h = let q : 0 ≡ a = omega (arith, part_le a 0 h) in subst P q here
 
 pub ones_sub : (a s : ℕ) → Part a s → ones (s - a) + ones a ≡ ones s
-ones_sub a s h = ones_sub_in s a s (le_refl s) h
-
-part_sub_in : (d a s : ℕ) → s ≤ d → Part a s → Part (s - a) s
-part_sub_in zero a s l h =
-    let p : s ≡ 0 = omega arith in
-    let q : a ≡ 0 = omega (arith, part_le a s h) in
-    rw (p, q) refl
-part_sub_in (suc d) a s l h =
-    let ih = part_sub_in d (a / 2) (s / 2) (half_le l) (part_rest a s h) in
-    and_step (s - a) s ∙ rw (half_sub a s h, ih) (omega (arith, low_sub a s h, half_sub a s h))
+unfolding ones
+ones_sub a s = bin_ind (λ s. (a : ℕ) → Part a s → ones (s - a) + ones a ≡ ones s) (part_none (λ a. ones (0 - a) + ones a ≡ ones 0) refl) step s a
+  where
+    step : (s : ℕ) → ((a : ℕ) → Part a (s / 2) → ones (s / 2 - a) + ones a ≡ ones (s / 2)) → (a : ℕ) → Part a s → ones (s - a) + ones a ≡ ones s
+    step s ih a h =
+        rw (ones_step (s - a), ones_step a, ones_step s, half_sub a s h) (omega (arith, low_sub a s h, ih (a / 2) (part_rest a s h)))
 
 pub part_sub : (a s : ℕ) → Part a s → Part (s - a) s
-part_sub a s h = part_sub_in s a s (le_refl s) h
+part_sub a s = bin_ind (λ s. (a : ℕ) → Part a s → Part (s - a) s) (part_none (λ a. Part (0 - a) 0) refl) step s a
+  where
+    step : (s : ℕ) → ((a : ℕ) → Part a (s / 2) → Part (s / 2 - a) (s / 2)) → (a : ℕ) → Part a s → Part (s - a) s
+    step s ih a h =
+        and_step (s - a) s ∙ rw (half_sub a s h, ih (a / 2) (part_rest a s h)) (omega (arith, low_sub a s h, half_sub a s h))
 
 -- ---- tests
 
@@ -120,11 +115,10 @@ false_bit s e h = has_bit s e ∙ ap (λ (x : ℕ). eqb x 1) h
 
 -- a member of s is in a part or in the rest, and not in both
 pub has_rest : (s a e : ℕ) → Part a s → has s e ≡ true → has (s - a) e ≡ not (has a e)
-has_rest s a e p h = go (has a e) refl
-  where
-    go : (b : Bool) → has a e ≡ b → has (s - a) e ≡ not b
-    go true g = false_bit (s - a) e (omega (arith, bit_sub e a s p, bit_true s e h, bit_true a e g))
-    go false g = true_bit (s - a) e (omega (arith, bit_sub e a s p, bit_true s e h, bit_false a e g))
+has_rest s a e p h = elim (cases_Bool (has a e)) [
+  | inl g ↦ rw g (false_bit (s - a) e (omega (arith, bit_sub e a s p, bit_true s e h, bit_true a e g)))
+  | inr g ↦ rw g (true_bit (s - a) e (omega (arith, bit_sub e a s p, bit_true s e h, bit_false a e g)))
+]
 
 -- a member of a part is a member of the whole
 pub has_part : (s a e : ℕ) → Part a s → has a e ≡ true → has s e ≡ true
@@ -133,63 +127,31 @@ has_part s a e p h = true_bit s e (omega (arith, bit_sub e a s p, bit_true a e h
 -- a set with anybody in it has a member
 pub some_member : (n s : ℕ) → s < 2 ^ n → 0 < s → (e : ℕ) × (e < n) × (has s e ≡ true)
 some_member zero s h p = absurd (omega arith)
-some_member (suc n) s h p = go (cases_eq (s % 2) 1) (some_member n (s / 2))
-  where
-    go : (s % 2 ≡ 1) ⊎ (s % 2 ≡ 1 → ⊥) → (s / 2 < 2 ^ n → 0 < s / 2 → (e : ℕ) × (e < n) × (has (s / 2) e ≡ true))
-        → (e : ℕ) × (e < suc n) × (has s e ≡ true)
-    go (inl e) ih = (0, omega arith, true_bit s 0 (bit_zero s ∙ e))
-    go (inr e) ih =
-        let l : s / 2 < 2 ^ n = omega arith in
-        let r = ih l (omega arith) in
-        let q : r.0 < n = r.1 in
-        (suc r.0, omega arith, true_bit s (suc r.0) (bit_suc s r.0 ∙ bit_true (s / 2) r.0 r.2))
+some_member (suc n) s h p = elim (cases_eq (s % 2) 1) [
+  | inl e ↦ (0, omega arith, true_bit s 0 (bit_zero s ∙ e))
+  | inr e ↦ (let r = some_member n (s / 2) (omega arith) (omega arith) in (suc r.0, omega (arith, r.1), true_bit s (suc r.0) (bit_suc s r.0 ∙ bit_true (s / 2) r.0 r.2)))
+]
 
 -- ---- sets that share nobody
 
 -- the rest of a part shares nobody with it
-apart_in : (d a s : ℕ) → s ≤ d → Part a s → bit_and a (s - a) ≡ 0
-apart_in zero a s l h =
-    let p : s ≡ 0 = omega arith in
-    let q : a ≡ 0 = omega (arith, part_le a s h) in
-    rw (p, q) refl
-apart_in (suc d) a s l h =
-    let ih = apart_in d (a / 2) (s / 2) (half_le l) (part_rest a s h) in
-    and_step a (s - a) ∙ rw (half_sub a s h, ih) (omega (arith, low_sub a s h))
-
 pub part_apart : (a s : ℕ) → Part a s → bit_and a (s - a) ≡ 0
-part_apart a s h = apart_in s a s (le_refl s) h
-
-apart_rest : (a b : ℕ) → bit_and a b ≡ 0 → bit_and (a / 2) (b / 2) ≡ 0
-apart_rest a b h = omega (arith, and_step a b, h)
-
-apart_low : (a b : ℕ) → bit_and a b ≡ 0 → min (a % 2) (b % 2) ≡ 0
-apart_low a b h = omega (arith, and_step a b, h)
-
-part_sum_in : (d a b : ℕ) → a ≤ d → bit_and a b ≡ 0 → Part a (a + b)
-part_sum_in zero a b l h =
-    let p : a ≡ 0 = omega arith in
-    rw p refl
-part_sum_in (suc d) a b l h =
-    let ih = part_sum_in d (a / 2) (b / 2) (half_le l) (apart_rest a b h) in
-    let m = apart_low a b h in
-    let e : (a + b) / 2 ≡ a / 2 + b / 2 = omega arith in
-    and_step a (a + b) ∙ rw (e, ih) (omega arith)
+part_apart a s = bin_ind (λ s. (a : ℕ) → Part a s → bit_and a (s - a) ≡ 0) (part_none (λ a. bit_and a (0 - a) ≡ 0) refl) step s a
+  where
+    step : (s : ℕ) → ((a : ℕ) → Part a (s / 2) → bit_and a (s / 2 - a) ≡ 0) → (a : ℕ) → Part a s → bit_and a (s - a) ≡ 0
+    step s ih a h = and_step a (s - a) ∙ rw (half_sub a s h, ih (a / 2) (part_rest a s h)) (omega (arith, low_sub a s h))
 
 -- of two sets that share nobody, the first is a part of the sum
 pub part_sum : (a b : ℕ) → bit_and a b ≡ 0 → Part a (a + b)
-part_sum a b h = part_sum_in a a b (le_refl a) h
+part_sum a = bin_ind (λ a. (b : ℕ) → bit_and a b ≡ 0 → Part a (a + b)) (λ b h. and_zero_l (0 + b)) step a
+  where
+    step : (a : ℕ) → ((b : ℕ) → bit_and (a / 2) b ≡ 0 → Part (a / 2) (a / 2 + b)) → (b : ℕ) → bit_and a b ≡ 0 → Part a (a + b)
+    step a ih b h =
+        let st = and_step a b in
+        let e : (a + b) / 2 ≡ a / 2 + b / 2 = omega arith in
+        and_step a (a + b) ∙ rw (e, ih (b / 2) (omega arith)) (omega arith)
 
 -- ---- how many
-
-ones_none_in : (d s : ℕ) → s ≤ d → ones s ≡ 0 → s ≡ 0
-ones_none_in zero s l h = omega arith
-ones_none_in (suc d) s l h =
-    let st = ones_step s in
-    let ih = ones_none_in d (s / 2) (half_le l) (omega arith) in
-    omega arith
-
-pub ones_none : (s : ℕ) → ones s ≡ 0 → s ≡ 0
-ones_none s h = ones_none_in s s (le_refl s) h
 
 pub ones_some : (e s : ℕ) → bit s e ≡ 1 → 0 < ones s
 ones_some zero s h = omega (arith, ones_step s, bit_zero s)
@@ -198,7 +160,7 @@ ones_some (suc e) s h = omega (arith, ones_step s, ones_some e (s / 2) (sym (bit
 -- a set of one
 pub ones_one : (e s : ℕ) → bit s e ≡ 1 → ones s ≡ 1 → s ≡ 2 ^ e
 ones_one zero s h o =
-    let z = ones_none (s / 2) (omega (arith, ones_step s, bit_zero s)) in
+    let z = zero_from_ones (s / 2) (omega (arith, ones_step s, bit_zero s)) in
     omega (arith, bit_zero s)
 ones_one (suc e) s h o =
     let h' = sym (bit_suc s e) ∙ h in
@@ -207,30 +169,21 @@ ones_one (suc e) s h o =
     omega (arith, ones_some e (s / 2) h')
 
 pub bit_pow : (e : ℕ) → bit (2 ^ e) e ≡ 1
-bit_pow zero = bit_zero 1
-bit_pow (suc e) =
-    let h : 2 ^ suc e / 2 ≡ 2 ^ e = omega arith in
-    bit_suc (2 ^ suc e) e ∙ ap (λ (x : ℕ). bit x e) h ∙ bit_pow e
+unfolding bit
+bit_pow e = bit_at-pow_same e
 
 pub ones_pow : (e : ℕ) → ones (2 ^ e) ≡ 1
 unfolding ones
 ones_pow zero = refl
 ones_pow (suc e) =
     let h : 2 ^ suc e / 2 ≡ 2 ^ e = omega arith in
-    let z : 2 ^ suc e % 2 ≡ 0 = omega arith in
-    ones_step (2 ^ suc e) ∙ ap₂ (λ (x y : ℕ). x + ones y) z h ∙ omega (arith, ones_pow e)
+    omega (arith, ones_step (2 ^ suc e), ap ones h, ones_pow e)
 
-bit_none : (e : ℕ) → bit 0 e ≡ 0
-bit_none zero = bit_zero 0
-bit_none (suc e) = bit_suc 0 e ∙ bit_none e
+pub bit_none : (e : ℕ) → bit 0 e ≡ 0
+unfolding bit
+bit_none e = bit_at-zero e
 
 -- a member is below n
 pub member_lt : (n s e : ℕ) → s < 2 ^ n → bit s e ≡ 1 → e < n
-member_lt zero s e h b =
-    let z : s ≡ 0 = omega arith in
-    let c : bit s e ≡ 0 = rw z (bit_none e) in
-    omega arith
-member_lt (suc n) s zero h b = omega arith
-member_lt (suc n) s (suc e) h b =
-    let l : s / 2 < 2 ^ n = omega arith in
-    omega (arith, member_lt n (s / 2) e l (sym (bit_suc s e) ∙ b))
+unfolding bit
+member_lt n s e h b = elim (cases_lt e n) [ inl l ↦ l | inr l ↦ absurd (omega (arith, bit_at_above s n e h l)) ]

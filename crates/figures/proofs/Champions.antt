@@ -1,8 +1,8 @@
 -- The champion of a bracket on s is a member of s. Assumes nothing.
-use Rattle.std.proofs.Common.{◌≡◌, ℕ, zero, suc, ◌-◌, ◌^◌, ◌<◌, Bool, true, false, cond, ◌&&◌, eqb, List, [], ◌∷◌, map, get_or, sym, refl, subst, inl, inr, arith}
+use Rattle.std.proofs.Common.{◌≡◌, ℕ, zero, suc, ◌-◌, ◌^◌, ◌<◌, true, ◌&&◌, eqb, List, [], ◌∷◌, get_or, refl, inl, inr, arith}
 use lib.Count.{ones}
 use Rattle.std.specs.List.{range_with_len}
-use Rattle.std.proofs.lemmas.Bool.{and_parts, and_from, eqb-true}
+use Rattle.std.proofs.lemmas.Bool.{and_parts, and_from, eqb-true, cases_Bool}
 use Rattle.figures.specs.Lists.{In, gather}
 use Rattle.figures.specs.Fields.{Field}
 use Rattle.figures.specs.Sets.{has, half, members, lowest, halves}
@@ -34,11 +34,19 @@ in_halves f s e a h g =
 -- a bracket of no rounds: its set has one member
 pub single : (f : Field) (s : ℕ) (t : Filled) → In t (listed_in f 0 s) → (ones s ≡ 1) × (e : ℕ) × In e (members f s) × (t ≡ sole e)
 unfolding listed_in
-single f s t h = go (eqb (ones s) 1) refl h
-  where
-    go : (b : Bool) → eqb (ones s) 1 ≡ b → In t (cond b (map sole (members f s)) []) → (ones s ≡ 1) × (e : ℕ) × In e (members f s) × (t ≡ sole e)
-    go true q i = let p = map_in sole t (members f s) i in (eqb-true (ones s) 1 q, p.0, p.1, p.2)
-    go false q i = absurd i
+single f s t h = elim (cases_Bool (eqb (ones s) 1)) [
+  | inl q ↦ (let p = map_in sole t (members f s) (rw q at h) in (eqb-true (ones s) 1 q, p.0, p.1, p.2))
+  | inr q ↦ absurd (rw q at h)
+]
+
+-- the two results of the last match between l and r
+abbrev pub two : Filled → Filled → List Filled
+two l r = match first l r ∷ match second l r ∷ []
+
+pub two_in : (t l r : Filled) → In t (two l r) → (side : Side) × (t ≡ match side l r)
+two_in t l r (inl e) = (first, e)
+two_in t l r (inr (inl e)) = (second, e)
+two_in t l r (inr (inr e)) = absurd e
 
 -- what a bracket of one more round is made of
 pub record Made (f : Field) (k s : ℕ) (t : Filled) : Type 0 where
@@ -54,17 +62,11 @@ pub record Made (f : Field) (k s : ℕ) (t : Filled) : Type 0 where
 pub made : (f : Field) (k s : ℕ) (t : Filled) → In t (listed_in f (suc k) s) → Made f k s t
 unfolding listed_in
 made f k s t h =
-    let two : Filled → Filled → List Filled = λ l r. match first l r ∷ match second l r ∷ [] in
     let p = gather_in (λ a. gather (listed_in f k a) λ l. gather (listed_in f k (s - a)) λ r. two l r) t (halves f s (lowest f s)) h in
     let q = gather_in (λ l. gather (listed_in f k (s - p.0)) λ r. two l r) t (listed_in f k p.0) p.2 in
     let r = gather_in (λ r. two q.0 r) t (listed_in f k (s - p.0)) q.2 in
-    go p.0 q.0 r.0 p.1 q.1 r.1 r.2
-  where
-    go : (a : ℕ) (l r : Filled) → In a (halves f s (lowest f s)) → In l (listed_in f k a) → In r (listed_in f k (s - a))
-        → In t (match first l r ∷ match second l r ∷ []) → Made f k s t
-    go a l r i j m (inl e) = record { one_half = a; side = first; left = l; right = r; chosen = i; left_in = j; right_in = m; is = e }
-    go a l r i j m (inr (inl e)) = record { one_half = a; side = second; left = l; right = r; chosen = i; left_in = j; right_in = m; is = e }
-    go a l r i j m (inr (inr e)) = absurd e
+    let u = two_in t q.0 r.0 r.2 in
+    record { one_half = p.0; side = u.0; left = q.0; right = r.0; chosen = p.1; left_in = q.1; right_in = r.1; is = u.1 }
 
 -- e is a member of s and an entrant of the field
 abbrev pub Within : Field → ℕ → ℕ → Type 0
@@ -74,22 +76,16 @@ pub champion_within : (f : Field) (k s : ℕ) (t : Filled) → In t (listed_in f
 unfolding listed_in champion pick
 champion_within f zero s t h =
     let p = single f s t h in
-    let P : Filled → Type 0 = λ v. Within f s (champion v) in
-    subst P (sym p.3) (members_in f s p.1 p.2)
+    rw p.3 (members_in f s p.1 p.2)
 champion_within f (suc k) s t h =
     let m = made f k s t h in
     let a = m.one_half in
     let p = (half_parts s a (halves_in f s (lowest f s) a m.chosen).0).0 in
-    go m p (champion_within f k a m.left m.left_in) (champion_within f k (s - a) m.right m.right_in) m.side m.is
+    rw m.is (go a m.left m.right p (champion_within f k a m.left m.left_in) (champion_within f k (s - a) m.right m.right_in) m.side)
   where
-    go : (m : Made f k s t) → Part m.one_half s → Within f m.one_half (champion m.left) → Within f (s - m.one_half) (champion m.right)
-        → (side : Side) → t ≡ match side m.left m.right → Within f s (champion t)
-    go m p l r first e =
-        let P : Filled → Type 0 = λ v. Within f s (champion v) in
-        subst P (sym e) (has_part s m.one_half (champion m.left) p l.0, l.1)
-    go m p l r second e =
-        let P : Filled → Type 0 = λ v. Within f s (champion v) in
-        subst P (sym e) (has_part s (s - m.one_half) (champion m.right) (part_sub m.one_half s p) r.0, r.1)
+    go : (a : ℕ) (l r : Filled) → Part a s → Within f a (champion l) → Within f (s - a) (champion r) → (side : Side) → Within f s (champion (match side l r))
+    go a l r p i j first = (has_part s a (champion l) p i.0, i.1)
+    go a l r p i j second = (has_part s (s - a) (champion r) (part_sub a s p) j.0, j.1)
 
 first_in : (e : ℕ) (xs : List ℕ) → In e xs → In (get_or xs 0 0) xs
 first_in e [] h = absurd h

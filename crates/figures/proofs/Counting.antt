@@ -1,19 +1,18 @@
 -- How many brackets there are on a set. Assumes nothing.
-use Rattle.std.proofs.Common.{◌≡◌, ℕ, zero, suc, ◌-◌, ◌*◌, ◌^◌, ◌<◌, true, cond, ◌&&◌, eqb, ◌⊎◌, List, [], ◌∷◌, map, length, None, sym, refl, ap, ◌∙◌, subst, ap₂, inl, inr, suc-mul, mul_comm, pow-suc, arith, length-append, pow_pos}
+use Rattle.std.proofs.Common.{◌≡◌, ℕ, zero, suc, ◌-◌, ◌*◌, ◌^◌, ◌<◌, true, cond, eqb, List, [], ◌∷◌, map, length, None, sym, refl, ap, ◌∙◌, ap₂, inl, inr, suc-mul, arith, length-append, pow_pos}
 use lib.Count.{ones}
 use lib.ListN.{length-map}
-use lib.Pow.{pow-lt}
-use Rattle.std.specs.List.{range_with_len}
-use Rattle.std.proofs.lemmas.Bool.{eq-eqb, cases_order}
+use Rattle.std.proofs.lemmas.Bool.{eq-eqb}
 use Rattle.figures.specs.Lists.{In, Distinct, EachOnce, gather}
 use Rattle.figures.specs.Fields.{Field}
-use Rattle.figures.specs.Sets.{has, half, members, lowest, halves}
-use Rattle.figures.specs.Brackets.{Bracket, alone, pair, first, Filled, sole, match, bracket, Ordered, BracketOn, On, listed_in}
+use Rattle.figures.specs.Sets.{has, members, lowest, halves}
+use Rattle.figures.specs.Brackets.{Bracket, alone, pair, first, Filled, sole, match, bracket, Ordered, BracketOn, On, rounds, listed_in}
 use Rattle.figures.specs.Counts.{choose, bracket_count}
-use Rattle.figures.proofs.Lists.{in_map, map_in, in_gather, gather_in}
+use Rattle.figures.proofs.Lists.{in_map, map_in, in_gather, gather_in, same_length}
 use Rattle.figures.proofs.Bits.{half_parts, part_le, ones_sub, bit_true, ones_one}
 use Rattle.figures.proofs.Champions.{made, single, members_in, in_members, halves_in, lowest_in_lem}
-use Rattle.figures.proofs.Listed.{positive, in_listed, sound, complete, on_one, distinct_counting, distinct_kept, distinct_map, distinct_gather}
+use Rattle.figures.proofs.Listed.{positive, in_listed, sound, complete, on_one, members_once, halves_once, distinct_map, distinct_gather}
+use Rattle.figures.proofs.Rounds.{rounds_pow}
 use Rattle.figures.proofs.Halving.{halves_count}
 
 -- the bracket filled so that the champion of each first half wins
@@ -46,10 +45,10 @@ bracket_back (alone e) = refl
 bracket_back (pair l r) = ap₂ pair (bracket_back l) (bracket_back r)
 
 on_firsts : (s : ℕ) (b : Bracket) → BracketOn s b → On s (firsts_win b)
-on_firsts s b h = remembered (firsts_win b) s (subst (BracketOn s) (sym (bracket_back b)) h)
+on_firsts s b h = remembered (firsts_win b) s (rw (bracket_back b) h)
 
 firsts_on : (s : ℕ) (b : Bracket) → On s (firsts_win b) → BracketOn s b
-firsts_on s b h = subst (BracketOn s) (bracket_back b) (forgotten (firsts_win b) s h)
+firsts_on s b h = rw (bracket_back b) at (forgotten (firsts_win b) s h)
 
 -- every bracket of k rounds on s
 brackets_in : Field → ℕ → ℕ → List Bracket
@@ -59,9 +58,6 @@ brackets_in f (suc k) s =
     gather (brackets_in f k a) λ l.
     map (pair l) (brackets_in f k (s - a))
 
-pair_left : (l r m q : Bracket) → pair l r ≡ pair m q → l ≡ m
-pair_left l r m q e = cc
-
 -- a half, what it is to s
 halved : (f : Field) (k s e a : ℕ) → s < 2 ^ f.size → ones s ≡ 2 ^ suc k → In a (halves f s e) → (a < 2 ^ f.size) × (ones a ≡ 2 ^ k) × (s - a < 2 ^ f.size) × (ones (s - a) ≡ 2 ^ k)
 halved f k s e a h o i =
@@ -69,16 +65,15 @@ halved f k s e a h o i =
     let l = part_le a s p.0 in
     let q = ones_sub a s p.0 in
     let r = p.1 in
-    let d : 2 ^ suc k ≡ 2 * 2 ^ k = pow-suc 2 k ∙ mul_comm (2 ^ k) 2 in
     (omega arith, omega arith, omega arith, omega arith)
 
 one_bracket : (f : Field) (s : ℕ) → ones s ≡ 1 → brackets_in f 0 s ≡ map alone (members f s)
 unfolding brackets_in
-one_bracket f s o = ap (λ b. cond b (map alone (members f s)) []) (eq-eqb (ones s) 1 o)
+one_bracket f s o = rw (eq-eqb (ones s) 1 o) refl
 
 one_listed : (f : Field) (s : ℕ) → ones s ≡ 1 → listed_in f 0 s ≡ map sole (members f s)
 unfolding listed_in
-one_listed f s o = ap (λ b. cond b (map sole (members f s)) []) (eq-eqb (ones s) 1 o)
+one_listed f s o = rw (eq-eqb (ones s) 1 o) refl
 
 -- what a bracket of one more round is made of
 record Paired (f : Field) (k s : ℕ) (b : Bracket) : Type 0 where
@@ -109,16 +104,12 @@ in_paired f k s a l r i j m =
 on_brackets : (f : Field) (k s : ℕ) → s < 2 ^ f.size → ones s ≡ 2 ^ k → (b : Bracket) → In b (brackets_in f k s) → In (firsts_win b) (listed_in f k s)
 unfolding firsts_win
 on_brackets f zero s h o b i =
-    let P : List Bracket → Type 0 = λ xs. In b xs in
-    let Q : List Filled → Type 0 = λ xs. In (firsts_win b) xs in
-    let p = map_in alone b (members f s) (subst P (one_bracket f s o) i) in
-    let R : Bracket → Type 0 = λ x. In (firsts_win x) (map sole (members f s)) in
-    subst Q (sym (one_listed f s o)) (subst R (sym p.2) (in_map sole p.0 (members f s) p.1))
+    let p = map_in alone b (members f s) (rw (one_bracket f s o) at i) in
+    rw (one_listed f s o, p.2) (in_map sole p.0 (members f s) p.1)
 on_brackets f (suc k) s h o b i =
     let p = paired f k s b i in
     let d = halved f k s (lowest f s) p.one_half h o p.chosen in
-    let R : Bracket → Type 0 = λ x. In (firsts_win x) (listed_in f (suc k) s) in
-    subst R (sym p.is)
+    rw p.is
     (in_listed f k s p.one_half first (firsts_win p.left) (firsts_win p.right) p.chosen
     (on_brackets f k p.one_half d.0 d.1 p.left p.left_in) (on_brackets f k (s - p.one_half) d.2 d.3 p.right p.right_in))
 
@@ -128,33 +119,29 @@ unfolding firsts_win
 listed_back f zero s h o (alone e) i =
     let p = single f s (sole e) i in
     let q : e ≡ p.1 = cc p.3 in
-    let P : List Bracket → Type 0 = λ xs. In (alone e) xs in
-    let R : ℕ → Type 0 = λ x. In x (members f s) in
-    subst P (sym (one_bracket f s o)) (in_map alone e (members f s) (subst R (sym q) p.2))
+    rw (one_bracket f s o) (in_map alone e (members f s) (rw q p.2))
 listed_back f zero s h o (pair l r) i =
     let p = single f s (match first (firsts_win l) (firsts_win r)) i in
-    absurd (let z : ◌≡◌ {A = ℕ} 0 1 = cc p.3 in omega arith)
+    absurd (cc p.3)
 listed_back f (suc k) s h o (alone e) i =
     let m = made f k s (sole e) i in
-    absurd (let z : ◌≡◌ {A = ℕ} 0 1 = cc m.is in omega arith)
+    absurd (cc m.is)
 listed_back f (suc k) s h o (pair l r) i =
     let m = made f k s (match first (firsts_win l) (firsts_win r)) i in
     let x : m.left ≡ firsts_win l = cc m.is in
     let y : m.right ≡ firsts_win r = cc m.is in
     let d = halved f k s (lowest f s) m.one_half h o m.chosen in
-    let P : Filled → Type 0 = λ t. In t (listed_in f k m.one_half) in
-    let Q : Filled → Type 0 = λ t. In t (listed_in f k (s - m.one_half)) in
     in_paired f k s m.one_half l r m.chosen
-    (listed_back f k m.one_half d.0 d.1 l (subst P x m.left_in)) (listed_back f k (s - m.one_half) d.2 d.3 r (subst Q y m.right_in))
+    (listed_back f k m.one_half d.0 d.1 l (rw x at m.left_in)) (listed_back f k (s - m.one_half) d.2 d.3 r (rw y at m.right_in))
 
 -- each once
 brackets_distinct : (f : Field) (k s : ℕ) → s < 2 ^ f.size → ones s ≡ 2 ^ k → Distinct (brackets_in f k s)
-unfolding brackets_in members halves
+unfolding brackets_in
 brackets_distinct f zero s h o =
-    subst Distinct (sym (one_bracket f s o)) (distinct_map alone (λ x y e. cc) (members f s) (distinct_kept (has s) (range_with_len 0 f.size) (distinct_counting 0 f.size)))
+    rw (one_bracket f s o) (distinct_map alone (λ x y e. cc) (members f s) (members_once f s))
 brackets_distinct f (suc k) s h o =
     distinct_gather (λ a. gather (brackets_in f k a) λ l. map (pair l) (brackets_in f k (s - a))) (halves f s (lowest f s))
-    (distinct_kept (λ a. half s a && has a (lowest f s)) (range_with_len 0 (suc s)) (distinct_counting 0 (suc s)))
+    (halves_once f s (lowest f s))
     (λ a i. let d = halved f k s (lowest f s) a h o i in
     rows (brackets_in f k a) (brackets_in f k (s - a)) (brackets_distinct f k a d.0 d.1) (brackets_distinct f k (s - a) d.2 d.3))
     (λ a z b i j p q.
@@ -162,11 +149,10 @@ brackets_distinct f (suc k) s h o =
     let v = from z b q in
     let d = halved f k s (lowest f s) a h o i in
     let g = halved f k s (lowest f s) z h o j in
-    let e : u.0 ≡ v.0 = pair_left u.0 u.1 v.0 v.1 (sym u.3 ∙ v.3) in
-    let P : Bracket → Type 0 = λ x. In x (brackets_in f k z) in
+    let e : u.0 ≡ v.0 = cc (u.3, v.3) in
     on_one (firsts_win u.0) a z
     (sound f k a d.0 (firsts_win u.0) (on_brackets f k a d.0 d.1 u.0 u.2))
-    (sound f k z g.0 (firsts_win u.0) (on_brackets f k z g.0 g.1 u.0 (subst P (sym e) v.2))))
+    (sound f k z g.0 (firsts_win u.0) (on_brackets f k z g.0 g.1 u.0 (rw e v.2))))
   where
     rows : (ls rs : List Bracket) → Distinct ls → Distinct rs → Distinct (gather ls λ l. map (pair l) rs)
     rows ls rs d e =
@@ -174,7 +160,7 @@ brackets_distinct f (suc k) s h o =
         (λ x z y i j p q.
         let u = map_in (pair x) y rs p in
         let v = map_in (pair z) y rs q in
-        pair_left x u.0 z v.0 (sym u.2 ∙ v.2))
+        cc (u.2, v.2))
 
     from : (a : ℕ) (b : Bracket) → In b (gather (brackets_in f k a) λ l. map (pair l) (brackets_in f k (s - a))) → (l : Bracket) × (r : Bracket) × In l (brackets_in f k a) × (b ≡ pair l r)
     from a b i =
@@ -188,11 +174,7 @@ gather_length : {X Y : Type 0} (g : X → List Y) (c : ℕ) (xs : List X) → ((
 unfolding gather
 gather_length g c [] h = omega arith
 gather_length g c (x ∷ xs) h =
-    let p = length-append (g x) (gather xs g) in
-    let q = h x (inl refl) in
-    let r = gather_length g c xs (λ y i. h y (inr i)) in
-    let t = suc-mul (length xs) c in
-    omega (arith, p, q, r, t)
+    omega (arith, length-append (g x) (gather xs g), h x (inl refl), gather_length g c xs (λ y i. h y (inr i)), suc-mul (length xs) c)
 
 only_one : (e : ℕ) (xs : List ℕ) → Distinct xs → In e xs → ((x : ℕ) → In x xs → x ≡ e) → length xs ≡ 1
 only_one e [] d i h = absurd i
@@ -200,19 +182,13 @@ only_one e (x ∷ []) d i h = refl
 only_one e (x ∷ y ∷ xs) d i h = absurd (d.0 (inl (h x (inl refl) ∙ sym (h y (inr (inl refl))))))
 
 pow_same : (a b : ℕ) → 2 ^ a ≡ 2 ^ b → a ≡ b
-pow_same a b e = go (cases_order a b)
-  where
-    go : (a ≡ b) ⊎ ((a < b) ⊎ (b < a)) → a ≡ b
-    go (inl q) = q
-    go (inr (inl q)) = let w : 2 ^ a < 2 ^ b = pow-lt q in absurd (omega arith)
-    go (inr (inr q)) = let w : 2 ^ b < 2 ^ a = pow-lt q in absurd (omega arith)
+pow_same a b e = cc (rounds_pow a, rounds_pow b, ap rounds e)
 
 one_member : (f : Field) (s : ℕ) → s < 2 ^ f.size → ones s ≡ 1 → length (members f s) ≡ 1
-unfolding members
 one_member f s h o =
     let w = lowest_in_lem f s h (positive s 0 o) in
     let at : (x : ℕ) → has s x ≡ true → s ≡ 2 ^ x = λ x m. ones_one x s (bit_true s x m) o in
-    only_one (lowest f s) (members f s) (distinct_kept (has s) (range_with_len 0 f.size) (distinct_counting 0 f.size)) (in_members f s (lowest f s) w.0 w.1)
+    only_one (lowest f s) (members f s) (members_once f s) (in_members f s (lowest f s) w.0 w.1)
     (λ x i. pow_same x (lowest f s) (sym (at x (members_in f s x i).0) ∙ at (lowest f s) w.0))
 
 brackets_length : (f : Field) (k s : ℕ) → s < 2 ^ f.size → ones s ≡ 2 ^ k → length (brackets_in f k s) ≡ bracket_count k
@@ -221,7 +197,6 @@ brackets_length f zero s h o = ap length (one_bracket f s o) ∙ length-map (mem
 brackets_length f (suc k) s h o =
     let e = lowest f s in
     let p = pow_pos k in
-    let d : 2 ^ suc k ≡ 2 * 2 ^ k = pow-suc 2 k ∙ mul_comm (2 ^ k) 2 in
     let q : suc (2 ^ k - 1) ≡ 2 ^ k = omega arith in
     let size : ones s ≡ 2 * suc (2 ^ k - 1) = omega arith in
     gather_length (λ a. gather (brackets_in f k a) λ l. map (pair l) (brackets_in f k (s - a))) (bracket_count k * bracket_count k) (halves f s (lowest f s))
@@ -232,66 +207,15 @@ brackets_length f (suc k) s h o =
 
 -- ---- any list that has each once is as long
 
--- ys without x
-record Less {X : Type 0} (x : X) (ys : List X) : Type 0 where
-  left : List X
-  shorter : length ys ≡ suc (length left)
-  once : Distinct ys → Distinct left
-  gone : Distinct ys → In x left → ⊥
-  inside : (y : X) → In y left → In y ys
-  rest : (y : X) → In y ys → (y ≡ x) ⊎ In y left
-
-less : {X : Type 0} (x : X) (ys : List X) → In x ys → Less x ys
-less x [] h = absurd h
-less {X} x (y ∷ ys) (inl e) = record {
-  left = ys;
-  shorter = refl;
-  once = λ d. d.1;
-  gone = λ d i. let P : X → Type 0 = λ z. In z ys in d.0 (subst P e i);
-  inside = λ z i. inr i;
-  rest = λ z i. elim i [ inl q ↦ inl (q ∙ sym e) | inr j ↦ inr j ];
-}
-less {X} x (y ∷ ys) (inr h) = go (less x ys h)
-  where
-    go : Less x ys → Less x (y ∷ ys)
-    go r = record {
-      left = y ∷ r.left;
-      shorter = ap suc r.shorter;
-      once = λ d. (λ i. d.0 (r.inside y i), r.once d.1);
-      gone = λ d i. elim i [ inl q ↦ (let P : X → Type 0 = λ z. In z ys in d.0 (subst P q h)) | inr j ↦ r.gone d.1 j ];
-      inside = λ z i. elim i [ inl q ↦ inl q | inr j ↦ inr (r.inside z j) ];
-      rest = λ z i. elim i [ inl q ↦ inr (inl q) | inr j ↦ deeper z (r.rest z j) ];
-    }
-      where
-        deeper : (z : X) → (z ≡ x) ⊎ In z r.left → (z ≡ x) ⊎ ((z ≡ y) ⊎ In z r.left)
-        deeper z (inl q) = inl q
-        deeper z (inr j) = inr (inr j)
-
-same_length_lem : {X : Type 0} (xs ys : List X) → Distinct xs → Distinct ys → ((x : X) → In x xs → In x ys) → ((x : X) → In x ys → In x xs) → length xs ≡ length ys
-same_length_lem [] [] d e to back = refl
-same_length_lem [] (y ∷ ys) d e to back = absurd (back y (inl refl))
-same_length_lem {X} (x ∷ xs) ys d e to back = go (less x ys (to x (inl refl))) (same_length_lem xs)
-  where
-    go : Less x ys → ((zs : List X) → Distinct xs → Distinct zs → ((z : X) → In z xs → In z zs) → ((z : X) → In z zs → In z xs) → length xs ≡ length zs) → suc (length xs) ≡ length ys
-    go r ih = ap suc (ih r.left d.1 (r.once e) (λ z i. into z i (r.rest z (to z (inr i)))) (λ z i. out z i (back z (r.inside z i)))) ∙ sym r.shorter
-      where
-        into : (z : X) → In z xs → (z ≡ x) ⊎ In z r.left → In z r.left
-        into z i (inl q) = let P : X → Type 0 = λ v. In v xs in absurd (d.0 (subst P q i))
-        into z i (inr j) = j
-
-        out : (z : X) → In z r.left → (z ≡ x) ⊎ In z xs → In z xs
-        out z i (inl q) = let P : X → Type 0 = λ v. In v r.left in absurd (r.gone e (subst P q i))
-        out z i (inr j) = j
-
 pub counted : (f : Field) (k s : ℕ) → s < 2 ^ f.size → ones s ≡ 2 ^ k → (bs : List Bracket) → Distinct bs → ((b : Bracket) → In b bs → BracketOn s b) → ((b : Bracket) → BracketOn s b → In b bs) → length bs ≡ bracket_count k
 counted f k s h o bs d only every =
-    same_length_lem bs (brackets_in f k s) d (brackets_distinct f k s h o)
+    same_length bs (brackets_in f k s) d (brackets_distinct f k s h o)
     (λ b i. listed_back f k s h o b (complete f k s h o (firsts_win b) (on_firsts s b (only b i))))
     (λ b i. every b (firsts_on s b (sound f k s h (firsts_win b) (on_brackets f k s h o b i))))
     ∙ brackets_length f k s h o
 
 -- the whole field of n entrants, and its brackets
-pub whole_counted : (n k c : ℕ) → 0 < 2 ^ n → ones (2 ^ n - 1) ≡ 2 ^ k → bracket_count k ≡ c → (bs : List Bracket) → EachOnce (BracketOn (2 ^ n - 1)) bs → length bs ≡ c
-whole_counted n k c p o is bs each =
+pub whole_counted : (n k c : ℕ) → ones (2 ^ n - 1) ≡ 2 ^ k → bracket_count k ≡ c → (bs : List Bracket) → EachOnce (BracketOn (2 ^ n - 1)) bs → length bs ≡ c
+whole_counted n k c o is bs each =
     let f : Field = record { size = n; beats = λ a b. None } in
-    counted f k (2 ^ n - 1) (omega arith) o bs each.once each.only each.every ∙ is
+    counted f k (2 ^ n - 1) (omega (arith, pow_pos n)) o bs each.once each.only each.every ∙ is

@@ -1,5 +1,5 @@
 -- The figure of every set that is not a single entrant goes by halves. Assumes nothing.
-use Rattle.std.proofs.Common.{◌≡◌, ℕ, zero, suc, ◌-◌, ◌*◌, ◌^◌, ◌<◌, true, ◌⊎◌, sym, refl, ap, ◌∙◌, ap₂, inl, inr, arith}
+use Rattle.std.proofs.Common.{◌≡◌, ℕ, zero, suc, ◌-◌, ◌*◌, ◌^◌, ◌<◌, true, sym, refl, ap, ◌∙◌, ap₂, inl, inr, arith}
 use lib.Count.{ones}
 use Rattle.std.proofs.lemmas.Bool.{cases_eq}
 use Rattle.algebra.specs.Semirings.{Semiring, LawfulSemiring}
@@ -55,12 +55,19 @@ module _ {M : Type 0} (A : Semiring M) (L : LawfulSemiring A) where
   unfolding by_halves
   by_halves_nothing f s w =
       over_same A (halves f s w) _ _ (λ a.
-      over_same A (members f (s - a)) _ _ (λ b. ap (λ x. A.times x (A.weight (f.beats w b))) (L.times_nothing A.nothing) ∙ L.times_nothing (A.weight (f.beats w b)))
+      over_same A (members f (s - a)) _ _ (λ b. rw (L.times_nothing A.nothing) (L.times_nothing (A.weight (f.beats w b))))
       ∙ over_nothing A L (members f (s - a)))
       ∙ over_nothing A L (halves f s w)
 
   pub by_halves_lem : ByHalves A
-  by_halves_lem f s w h not-one = go (cases_eq (ones s) (2 ^ rounds (ones s)))
+  by_halves_lem f s w h not-one = elim (cases_eq (ones s) (2 ^ rounds (ones s))) [
+    | inl o ↦ at (rounds (ones s)) o
+    | inr off ↦
+        figure_is A f s w ∙ figure_off A L f (rounds (ones s)) s w off
+        ∙ sym (by_halves_same A f s w (figure A f) (λ a e. A.nothing) (λ a e l q m.
+        none_off_powers f a e (λ k o. off (power_rounds (ones s) (suc k) (omega arith))))
+        ∙ by_halves_nothing f s w)
+  ]
     where
       at : (k : ℕ) → ones s ≡ 2 ^ k → figure A f s w ≡ by_halves A f (figure A f) s w
       at zero o = absurd (not-one o)
@@ -68,11 +75,3 @@ module _ {M : Type 0} (A : Semiring M) (L : LawfulSemiring A) where
           figure_at A f (suc k) s w o
           ∙ recurrence_at A L f k s w h (positive s (suc k) o)
           ∙ by_halves_same A f s w (figure_in A f k) (figure A f) (λ a e l q m. sym (figure_at A f k a e (omega arith)))
-
-      go : (ones s ≡ 2 ^ rounds (ones s)) ⊎ (ones s ≡ 2 ^ rounds (ones s) → ⊥) → figure A f s w ≡ by_halves A f (figure A f) s w
-      go (inl o) = at (rounds (ones s)) o
-      go (inr off) =
-          figure_is A f s w ∙ figure_off A L f (rounds (ones s)) s w off
-          ∙ sym (by_halves_same A f s w (figure A f) (λ a e. A.nothing) (λ a e l q m.
-          none_off_powers f a e (λ k o. off (power_rounds (ones s) (suc k) (omega arith))))
-          ∙ by_halves_nothing f s w)

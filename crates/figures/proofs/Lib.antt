@@ -15,5 +15,7 @@ pub mod Chosen
 pub mod Writings
 pub mod Small
 pub mod Loops
+pub mod Kept
+pub mod Members
 pub mod Halving
 pub mod Counting

@@ -1,16 +1,17 @@
--- The list of the listed_in brackets on a set holds each of them, only those, and each once. Assumes nothing.
-use Rattle.std.proofs.Common.{◌≡◌, ℕ, zero, suc, ◌+◌, ◌-◌, ◌^◌, ◌<◌, ◌≤◌, Bool, true, false, cond, ◌&&◌, eqb, ◌⊎◌, List, [], ◌∷◌, ◌++◌, map, get_or, filter, sym, refl, ap, ◌∙◌, subst, ap₂, inl, inr, arith, pow_pos}
+-- The list of the filled brackets on a set holds each of them, only those, and each once. Assumes nothing.
+use Rattle.std.proofs.Common.{◌≡◌, ℕ, zero, suc, ◌+◌, ◌-◌, ◌^◌, ◌<◌, ◌≤◌, Bool, true, false, cond, ◌&&◌, eqb, List, [], ◌∷◌, ◌++◌, map, get_or, filter, sym, refl, ap, ◌∙◌, ap₂, inl, inr, arith, pow_pos}
 use lib.Bits.{bit_and}
 use lib.Count.{ones}
 use Rattle.std.specs.List.{range_with_len}
-use Rattle.std.proofs.lemmas.Bool.{eq-eqb}
-use Rattle.figures.specs.Lists.{In, Distinct, gather}
+use Rattle.std.proofs.lemmas.Bool.{eqb-true, eq-eqb, cases_Bool}
+use Rattle.std.proofs.lemmas.Nat.{ones_le_self}
+use Rattle.figures.specs.Lists.{In, Distinct, EachOnce, gather}
 use Rattle.figures.specs.Fields.{Field}
-use Rattle.figures.specs.Sets.{has, Member, Lowest, half, members, lowest, halves}
-use Rattle.figures.specs.Brackets.{Side, first, second, Filled, sole, match, On, rounds, listed_in, listed}
+use Rattle.figures.specs.Sets.{has, Lowest, half, members, lowest, halves}
+use Rattle.figures.specs.Brackets.{Side, first, second, Filled, sole, match, On, champion, rounds, listed_in, listed}
 use Rattle.figures.specs.Theorems.{ListedEachOnce, OnPowersOnly}
-use Rattle.figures.proofs.Lists.{in_either, kept_in, counting_in, in_map, map_in, in_gather, gather_in}
-use Rattle.figures.proofs.Champions.{made, single, listed_size, members_in, in_members, halves_in, in_halves, lowest_in_lem}
+use Rattle.figures.proofs.Lists.{in_either, in_kept, kept_in, counting_in, in_map, map_in, in_gather, gather_in}
+use Rattle.figures.proofs.Champions.{two, two_in, made, single, listed_size, members_in, in_members, halves_in, in_halves, lowest_in_lem}
 use Rattle.figures.proofs.Rounds.{power_rounds}
 use Rattle.figures.proofs.Bits.{bit, Part, half_parts, half_from, part_le, part_apart, part_sum, ones_sub, ones_one, ones_pow, bit_pow, bit_true, true_bit, member_lt}
 
@@ -18,14 +19,10 @@ use Rattle.figures.proofs.Bits.{bit, Part, half_parts, half_from, part_le, part_
 
 first_least : (p : ℕ → Bool) (x a n : ℕ) → In x (filter p (range_with_len a n)) → get_or (filter p (range_with_len a n)) 0 0 ≤ x
 first_least p x a zero h = absurd h
-first_least p x a (suc n) h = go (p a) (first_least p x (a + 1) n) h
-  where
-    go : (b : Bool) → (In x (filter p (range_with_len (a + 1) n)) → get_or (filter p (range_with_len (a + 1) n)) 0 0 ≤ x)
-        → In x (cond b (a ∷ filter p (range_with_len (a + 1) n)) (filter p (range_with_len (a + 1) n)))
-        → get_or (cond b (a ∷ filter p (range_with_len (a + 1) n)) (filter p (range_with_len (a + 1) n))) 0 0 ≤ x
-    go true ih (inl e) = omega arith
-    go true ih (inr i) = omega (arith, counting_in x (a + 1) n (kept_in p x (range_with_len (a + 1) n) i).0)
-    go false ih i = ih i
+first_least p x a (suc n) h = elim (cases_Bool (p a)) [
+  | inl g ↦ rw g (omega (arith, counting_in x a (suc n) (kept_in p x (range_with_len a (suc n)) h).0))
+  | inr g ↦ rw g (first_least p x (a + 1) n (rw g at h))
+]
 
 pub lowest_is : (f : Field) (s : ℕ) → s < 2 ^ f.size → 0 < s → Lowest s (lowest f s)
 unfolding lowest members
@@ -35,21 +32,14 @@ pub lowest_same : (s d e : ℕ) → Lowest s d → Lowest s e → d ≡ e
 lowest_same s d e p q = omega (arith, p.1 e q.0, q.1 d p.0)
 
 pub positive : (s k : ℕ) → ones s ≡ 2 ^ k → 0 < s
-unfolding ones
-positive s k h = go s h
-  where
-    go : (s : ℕ) → ones s ≡ 2 ^ k → 0 < s
-    go zero h = omega (arith, pow_pos k)
-    go (suc s) h = omega arith
+positive s k h = omega (arith, ones_le_self s, pow_pos k)
 
 -- ---- sound
 
 pub sound : (f : Field) (k s : ℕ) → s < 2 ^ f.size → (t : Filled) → In t (listed_in f k s) → On s t
 sound f zero s h t i =
     let p = single f s t i in
-    let P : Filled → Type 0 = On s in
-    let m = (members_in f s p.1 p.2).0 in
-    subst P (sym p.3) (ones_one p.1 s (bit_true s p.1 m) p.0)
+    rw p.3 (ones_one p.1 s (bit_true s p.1 (members_in f s p.1 p.2).0) p.0)
 sound f (suc k) s h t i =
     let o = listed_size f (suc k) s t i in
     let m = made f k s t i in
@@ -59,12 +49,7 @@ sound f (suc k) s h t i =
     let l = part_le a s p.0 in
     let q = ones_sub a s p.0 in
     let r = p.1 in
-    let P : Filled → Type 0 = On s in
-    let low : (e : ℕ) → Lowest s e → Member a e = λ e z.
-    let M : ℕ → Type 0 = λ x. Member a x in
-    subst M (lowest_same s (lowest f s) e (lowest_is f s h (positive s (suc k) o)) z) c.1
-    in
-    subst P (sym m.is) (record {
+    rw m.is (record {
       halved = record {
         a = a;
         b = s - a;
@@ -74,7 +59,7 @@ sound f (suc k) s h t i =
         on_first = sound f k a (omega arith) m.left m.left_in;
         on_second = sound f k (s - a) (omega arith) m.right m.right_in;
       };
-      lowest_first = low;
+      lowest_first = λ e z. rw (← lowest_same s (lowest f s) e (lowest_is f s h (positive s (suc k) o)) z) c.1;
     })
 
 -- ---- complete
@@ -82,8 +67,7 @@ sound f (suc k) s h t i =
 -- what two halves of s are to s
 pub parted : (a b s : ℕ) → a + b ≡ s → bit_and a b ≡ 0 → Part a s × (s - a ≡ b) × (ones b + ones a ≡ ones s)
 parted a b s e h =
-    let P : ℕ → Type 0 = λ x. Part a x in
-    let p : Part a s = subst P e (part_sum a b h) in
+    let p : Part a s = rw (← e) (part_sum a b h) in
     let d : s - a ≡ b = omega arith in
     (p, d, ap (λ (x : ℕ). ones x + ones a) (sym d) ∙ ones_sub a s p)
 
@@ -91,12 +75,11 @@ pub in_listed : (f : Field) (k s a : ℕ) (side : Side) (l r : Filled) → In a 
     → In (match side l r) (listed_in f (suc k) s)
 unfolding listed_in
 in_listed f k s a side l r i j m =
-    let two : Filled → Filled → List Filled = λ l r. match first l r ∷ match second l r ∷ [] in
     in_gather (λ a. gather (listed_in f k a) λ l. gather (listed_in f k (s - a)) λ r. two l r) a (match side l r) (halves f s (lowest f s)) i
     (in_gather (λ l. gather (listed_in f k (s - a)) λ r. two l r) l (match side l r) (listed_in f k a) j
     (in_gather (λ r. two l r) r (match side l r) (listed_in f k (s - a)) m (go side)))
   where
-    go : (side : Side) → In (match side l r) (match first l r ∷ match second l r ∷ [])
+    go : (side : Side) → In (match side l r) (two l r)
     go first = inl refl
     go second = inr (inl refl)
 
@@ -104,8 +87,7 @@ pub complete : (f : Field) (k s : ℕ) → s < 2 ^ f.size → ones s ≡ 2 ^ k �
 unfolding listed_in
 complete f zero s h o (sole e) q =
     let b : bit s e ≡ 1 = rw q (bit_pow e) in
-    let P : Bool → Type 0 = λ v. In (sole e) (cond v (map sole (members f s)) []) in
-    subst P (sym (eq-eqb (ones s) 1 o)) (in_map sole e (members f s) (in_members f s e (true_bit s e b) (member_lt f.size s e h b)))
+    rw (eq-eqb (ones s) 1 o) (in_map sole e (members f s) (in_members f s e (true_bit s e b) (member_lt f.size s e h b)))
 complete f zero s h o (match side l r) q =
     let z = q.halved in
     let g = (parted z.a z.b s z.sum z.apart).2 in
@@ -120,11 +102,10 @@ complete f (suc k) s h o (match side l r) q =
     let g = p.2 in
     let d = z.equal in
     let sum = z.sum in
-    let F : ℕ → Type 0 = λ x. In r (listed_in f k x) in
     in_listed f k s a side l r
     (in_halves f s (lowest f s) a (half_from s a p.0 (omega arith)) (q.lowest_first (lowest f s) (lowest_is f s h (positive s (suc k) o))))
     (complete f k a (omega arith) (omega arith) l z.on_first)
-    (subst F (sym p.1) (complete f k b (omega arith) (omega arith) r z.on_second))
+    (rw p.1 (complete f k b (omega arith) (omega arith) r z.on_second))
 
 -- ---- sizes
 
@@ -150,28 +131,28 @@ distinct_counting a (suc n) = (λ i. omega (arith, counting_in a (a + 1) n i), d
 
 pub distinct_kept : {X : Type 0} (p : X → Bool) (xs : List X) → Distinct xs → Distinct (filter p xs)
 distinct_kept p [] d = tt
-distinct_kept {X} p (x ∷ xs) d = go (p x) (distinct_kept p xs d.1)
-  where
-    go : (b : Bool) → Distinct (filter p xs) → Distinct (cond b (x ∷ filter p xs) (filter p xs))
-    go true ih = (λ i. d.0 (kept_in p x xs i).0, ih)
-    go false ih = ih
+distinct_kept p (x ∷ xs) d = elim (cases_Bool (p x)) [
+  | inl g ↦ rw g (λ i. d.0 (kept_in p x xs i).0, distinct_kept p xs d.1)
+  | inr g ↦ rw g (distinct_kept p xs d.1)
+]
+
+pub members_once : (f : Field) (s : ℕ) → Distinct (members f s)
+unfolding members
+members_once f s = distinct_kept (has s) (range_with_len 0 f.size) (distinct_counting 0 f.size)
+
+pub halves_once : (f : Field) (s e : ℕ) → Distinct (halves f s e)
+unfolding halves
+halves_once f s e = distinct_kept (λ a. half s a && has a e) (range_with_len 0 (suc s)) (distinct_counting 0 (suc s))
 
 pub distinct_map : {X Y : Type 0} (f : X → Y) → ((x y : X) → f x ≡ f y → x ≡ y) → (xs : List X) → Distinct xs → Distinct (map f xs)
 distinct_map f inj [] d = tt
-distinct_map {X} {Y} f inj (x ∷ xs) d = (
-  λ i. let r = map_in f (f x) xs i in
-      let P : X → Type 0 = λ z. In z xs in
-      d.0 (subst P (sym (inj x r.0 r.2)) r.1),
-  distinct_map f inj xs d.1,
-)
+distinct_map f inj (x ∷ xs) d =
+    (λ i. let r = map_in f (f x) xs i in d.0 (rw (inj x r.0 r.2) r.1), distinct_map f inj xs d.1)
 
 pub distinct_append : {X : Type 0} (xs ys : List X) → Distinct xs → Distinct ys → ((x : X) → In x xs → In x ys → ⊥) → Distinct (xs ++ ys)
 distinct_append [] ys d e h = e
-distinct_append {X} (x ∷ xs) ys d e h = (λ i. go (in_either x xs ys i), distinct_append xs ys d.1 e (λ y i j. h y (inr i) j))
-  where
-    go : In x xs ⊎ In x ys → ⊥
-    go (inl i) = d.0 i
-    go (inr i) = h x (inl refl) i
+distinct_append (x ∷ xs) ys d e h =
+    (λ i. elim (in_either x xs ys i) [ inl j ↦ d.0 j | inr j ↦ h x (inl refl) j ], distinct_append xs ys d.1 e (λ y i j. h y (inr i) j))
 
 -- lists that share nothing, one after the other
 pub distinct_gather : {X Y : Type 0} (f : X → List Y) (xs : List X) → Distinct xs → ((x : X) → In x xs → Distinct (f x))
@@ -181,9 +162,7 @@ distinct_gather f [] d each apart = tt
 distinct_gather {X} {Y} f (x ∷ xs) d each apart =
     distinct_append (f x) (gather xs f) (each x (inl refl))
     (distinct_gather f xs d.1 (λ z i. each z (inr i)) (λ u v y i j. apart u v y (inr i) (inr j)))
-    (λ y i j. let r = gather_in f y xs j in
-    let P : X → Type 0 = λ z. In z xs in
-    d.0 (subst P (sym (apart x r.0 y (inl refl) (inr r.1) i r.2)) r.1))
+    (λ y i j. let r = gather_in f y xs j in d.0 (rw (apart x r.0 y (inl refl) (inr r.1) i r.2) r.1))
 
 -- a bracket tells the set that it is on
 pub on_one : (t : Filled) (s z : ℕ) → On s t → On z t → s ≡ z
@@ -193,26 +172,8 @@ on_one (match side l r) s z p q =
     let y = q.halved in
     sym x.sum ∙ ap₂ (λ (v w : ℕ). v + w) (on_one l x.a y.a x.on_first y.on_first) (on_one r x.b y.b x.on_second y.on_second) ∙ y.sum
 
-abbrev two : Filled → Filled → List Filled
-two l r = match first l r ∷ match second l r ∷ []
-
-two_in : (t l r : Filled) → In t (two l r) → (side : Side) × (t ≡ match side l r)
-two_in t l r (inl e) = (first, e)
-two_in t l r (inr (inl e)) = (second, e)
-two_in t l r (inr (inr e)) = absurd e
-
 two_distinct : (l r : Filled) → Distinct (two l r)
-two_distinct l r = (λ i. never i, (λ i. i, tt))
-  where
-    never : In (match first l r) (match second l r ∷ []) → ⊥
-    never (inl e) = let z : ◌≡◌ {A = ℕ} 0 1 = cc in omega arith
-    never (inr i) = i
-
-same_left : (s u : Side) (l r m q : Filled) → match s l r ≡ match u m q → l ≡ m
-same_left s u l r m q e = cc
-
-same_right : (s u : Side) (l r m q : Filled) → match s l r ≡ match u m q → r ≡ q
-same_right s u l r m q e = cc
+two_distinct l r = (λ i. elim i [ inl e ↦ (cc) | inr j ↦ j ], (λ i. i, tt))
 
 -- against one bracket on the left
 row : List Filled → Filled → List Filled
@@ -232,7 +193,7 @@ row_distinct l rs d =
     (λ x z y i j p q.
     let u = two_in y l x p in
     let v = two_in y l z q in
-    same_right u.0 v.0 l x l z (sym u.1 ∙ v.1))
+    cc (u.1, v.1))
 
 rows_distinct : (ls rs : List Filled) → Distinct ls → Distinct rs → Distinct (gather ls (row rs))
 rows_distinct ls rs d e =
@@ -240,27 +201,26 @@ rows_distinct ls rs d e =
     (λ x z y i j p q.
     let u = row_in y x rs p in
     let v = row_in y z rs q in
-    same_left u.0 v.0 x u.1 z v.1 (sym u.3 ∙ v.3))
+    cc (u.3, v.3))
 
 pub distinct : (f : Field) (k s : ℕ) → s < 2 ^ f.size → Distinct (listed_in f k s)
-unfolding listed_in members halves row
+unfolding listed_in row
 distinct f zero s h = go (eqb (ones s) 1)
   where
     go : (b : Bool) → Distinct (cond b (map sole (members f s)) [])
-    go true = distinct_map sole (λ x y e. cc) (members f s) (distinct_kept (has s) (range_with_len 0 f.size) (distinct_counting 0 f.size))
+    go true = distinct_map sole (λ x y e. cc) (members f s) (members_once f s)
     go false = tt
 distinct f (suc k) s h =
     distinct_gather (λ a. gather (listed_in f k a) (row (listed_in f k (s - a)))) (halves f s (lowest f s))
-    (distinct_kept (λ a. half s a && has a (lowest f s)) (range_with_len 0 (suc s)) (distinct_counting 0 (suc s)))
+    (halves_once f s (lowest f s))
     (λ a i.
     let b = below a i in
     rows_distinct (listed_in f k a) (listed_in f k (s - a)) (distinct f k a b.0) (distinct f k (s - a) b.1))
     (λ a b t i j p q.
     let u = from a t p in
     let v = from b t q in
-    let e : u.1 ≡ v.1 = same_left u.0 v.0 u.1 u.2 v.1 v.2 (sym u.4 ∙ v.4) in
-    let P : Filled → Type 0 = λ x. In x (listed_in f k b) in
-    on_one u.1 a b (sound f k a (below a i).0 u.1 u.3) (sound f k b (below b j).0 u.1 (subst P (sym e) v.3)))
+    let e : u.1 ≡ v.1 = cc (u.4, v.4) in
+    on_one u.1 a b (sound f k a (below a i).0 u.1 u.3) (sound f k b (below b j).0 u.1 (rw e v.3)))
   where
     below : (a : ℕ) → In a (halves f s (lowest f s)) → (a < 2 ^ f.size) × (s - a < 2 ^ f.size)
     below a i =
@@ -283,3 +243,14 @@ all_listed f s h = record {
   every = λ t q. complete f (rounds (ones s)) s h (on_rounds s t q) t q;
   once = distinct f (rounds (ones s)) s h;
 }
+
+-- those with a given champion
+pub won_listed : (f : Field) (s w : ℕ) → s < 2 ^ f.size → EachOnce (λ t. On s t × (champion t ≡ w)) (filter (λ t. eqb (champion t) w) (listed f s))
+won_listed f s w h =
+    let p : Filled → Bool = λ t. eqb (champion t) w in
+    let all = all_listed f s h in
+    record {
+      only = λ t i. let q = kept_in p t (listed f s) i in (all.only t q.0, eqb-true (champion t) w q.1);
+      every = λ t q. in_kept p t (listed f s) (all.every t q.0) (eq-eqb (champion t) w q.1);
+      once = distinct_kept p (listed f s) all.once;
+    }

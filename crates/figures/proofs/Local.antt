@@ -1,5 +1,5 @@
 -- A figure takes from the field only its size and the pairings of two members of the set. Assumes nothing.
-use Rattle.std.proofs.Common.{◌≡◌, ℕ, zero, suc, ◌-◌, Bool, cond, eqb, List, [], ◌∷◌, map, get_or, filter, sym, refl, ap, ◌∙◌, subst, ap₂}
+use Rattle.std.proofs.Common.{◌≡◌, ℕ, zero, suc, ◌-◌, Bool, cond, eqb, List, [], ◌∷◌, map, get_or, filter, sym, refl, ap, ◌∙◌, ap₂}
 use lib.Count.{ones}
 use Rattle.std.specs.List.{range_with_len}
 use Rattle.algebra.specs.Semirings.{Semiring}
@@ -83,6 +83,4 @@ pairings_within A f g s same h w =
 
 pub one_pairing : {M : Type 0} (A : Semiring M) → OnePairing A
 one_pairing A f g a b same h s w apart =
-    pairings_within A f g s same (λ x y p q.
-    let P : ℕ → Type 0 = λ z. Member s z in
-    h x y (λ e. apart (subst P e.0 p, subst P e.1 q)) (λ e. apart (subst P e.1 q, subst P e.0 p))) w
+    pairings_within A f g s same (λ x y p q. h x y (λ e. apart (rw e.0 at p, rw e.1 at q)) (λ e. apart (rw e.1 at q, rw e.0 at p))) w

@@ -1,9 +1,9 @@
 -- The figure of a set by its halves. Assumes nothing.
-use Rattle.std.proofs.Common.{◌≡◌, ℕ, suc, ◌-◌, ◌^◌, ◌<◌, ◌≤◌, Bool, true, false, not, ◌&&◌, eqb, List, [], ◌∷◌, filter, sym, refl, ap, ◌∙◌, subst, ap₂, arith}
+use Rattle.std.proofs.Common.{◌≡◌, ℕ, suc, ◌-◌, ◌^◌, ◌<◌, ◌≤◌, Bool, true, false, not, ◌&&◌, eqb, List, [], ◌∷◌, filter, sym, refl, ap, ◌∙◌, ap₂, inl, inr, arith}
 use lib.Count.{ones}
 use Rattle.std.specs.List.{range_with_len}
-use Rattle.std.proofs.lemmas.Bool.{eqb-true, both_ways}
-use Rattle.figures.specs.Lists.{In, gather}
+use Rattle.std.proofs.lemmas.Bool.{eqb-true, both_ways, cases_Bool}
+use Rattle.figures.specs.Lists.{gather}
 use Rattle.algebra.specs.Semirings.{Semiring, LawfulSemiring}
 use Rattle.figures.specs.Sums.{over}
 use Rattle.figures.specs.Fields.{Field}
@@ -54,15 +54,10 @@ module _ {M : Type 0} (A : Semiring M) (L : LawfulSemiring A) (f : Field) where
 
   won_split : (w : ℕ) (l r : Filled) → won w l r ≡ A.times (when A (eqb (champion l) w) (worth A f l)) (A.times (worth A f r) (price w (champion r)))
   unfolding won when
-  won_split w l r = go (eqb (champion l) w) refl
-    where
-      go : (b : Bool) → eqb (champion l) w ≡ b
-          → when A b (A.times (A.times (worth A f l) (worth A f r)) (price (champion l) (champion r)))
-          ≡ A.times (when A b (worth A f l)) (A.times (worth A f r) (price w (champion r)))
-      go true e =
-          L.times_assoc (worth A f l) (worth A f r) (price (champion l) (champion r))
-          ∙ ap (λ x. A.times (worth A f l) (A.times (worth A f r) (price x (champion r)))) (eqb-true (champion l) w e)
-      go false e = sym (L.times_nothing (A.times (worth A f r) (price w (champion r))))
+  won_split w l r = elim (cases_Bool (eqb (champion l) w)) [
+    | inl e ↦ rw (e, L.times_assoc, eqb-true (champion l) w e) refl
+    | inr e ↦ rw (e, L.times_nothing) refl
+  ]
 
   beaten : (k b w : ℕ) → over A (listed_in f k b) (λ r. A.times (worth A f r) (price w (champion r))) ≡ over A (members f b) (λ c. A.times (figure_in A f k b c) (price w c))
   unfolding when
@@ -116,20 +111,16 @@ module _ {M : Type 0} (A : Semiring M) (L : LawfulSemiring A) (f : Field) where
   unfolding when
   figure_none k s w h =
       figure_when k s w
-      ∙ over_same_in A (listed_in f k s) _ _ (λ t i. each t i (eqb (champion t) w) refl)
+      ∙ over_same_in A (listed_in f k s) _ _ (λ t i. elim (cases_Bool (eqb (champion t) w)) [
+        | inl e ↦ absurd (both_ways (has s w) h (rw (← eqb-true (champion t) w e) (champion_within f k s t i).0))
+        | inr e ↦ rw e refl
+      ])
       ∙ over_nothing A L (listed_in f k s)
-    where
-      each : (t : Filled) → In t (listed_in f k s) → (b : Bool) → eqb (champion t) w ≡ b → when A b (worth A f t) ≡ A.nothing
-      each t i true e =
-          let P : ℕ → Type 0 = λ x. has s x ≡ true in
-          absurd (both_ways (has s w) h (subst P (eqb-true (champion t) w e) (champion_within f k s t i).0))
-      each t i false e = refl
 
   meeting_none : (k a b w : ℕ) → has a w ≡ false → meeting k a b w ≡ A.nothing
   unfolding meeting
   meeting_none k a b w h =
-      over_same A (members f b) _ _ (λ c. ap (λ x. A.times (A.times x (figure_in A f k b c)) (price w c)) (figure_none k a w h)
-      ∙ ap (λ x. A.times x (price w c)) (L.times_nothing (figure_in A f k b c)) ∙ L.times_nothing (price w c))
+      over_same A (members f b) _ _ (λ c. rw (figure_none k a w h, L.times_nothing (figure_in A f k b c)) (L.times_nothing (price w c)))
       ∙ over_nothing A L (members f b)
 
   -- a set that has not 2 ^ k members has no bracket of k rounds
@@ -164,11 +155,10 @@ module _ {M : Type 0} (A : Semiring M) (L : LawfulSemiring A) (f : Field) where
 
     held : (a : ℕ) → when A (half s a) (F a) ≡ when A (half s a && has a w) (F a)
     unfolding F when
-    held a = sym (when_both A L (half s a) (has a w) (F a) ∙ ap (when A (half s a)) (go (has a w) refl))
-      where
-        go : (b : Bool) → has a w ≡ b → when A b (F a) ≡ F a
-        go true e = refl
-        go false e = sym (meeting_none k a (s - a) w e)
+    held a = sym (when_both A L (half s a) (has a w) (F a) ∙ ap (when A (half s a)) (elim (cases_Bool (has a w)) [
+      | inl e ↦ rw e refl
+      | inr e ↦ rw e (sym (meeting_none k a (s - a) w e))
+    ]))
 
     joined : (x y : Bool) (v : M) → A.plus (when A (x && y) v) (when A (x && not y) v) ≡ when A x v
     unfolding when

@@ -1,5 +1,5 @@
 -- 2 ^ k entrants play k rounds. Assumes nothing.
-use Rattle.std.proofs.Common.{◌≡◌, ℕ, zero, suc, ◌+◌, ◌-◌, ◌^◌, ◌<◌, ◌≤◌, min, Bool, true, false, cond, ltb, ◌⊎◌, ◌∷◌, length, filter, sym, ap, ◌∙◌, inl, inr, arith, pow_pos, pow_mono}
+use Rattle.std.proofs.Common.{◌≡◌, ℕ, zero, suc, ◌+◌, ◌-◌, ◌^◌, ◌<◌, ◌≤◌, min, Bool, true, false, ltb, length, filter, sym, ap, ◌∙◌, inl, inr, arith, pow_pos, pow_mono}
 use lib.Pow.{pow-lt}
 use Rattle.std.specs.List.{range_with_len}
 use Rattle.std.proofs.lemmas.Bool.{lt-ltb, le-ltb, cases_lt}
@@ -9,12 +9,9 @@ use Rattle.figures.specs.Brackets.{rounds}
 count_below : (p : ℕ → Bool) (k : ℕ) → ((j : ℕ) → j < k → p j ≡ true) → ((j : ℕ) → k ≤ j → p j ≡ false)
     → (a n : ℕ) → length (filter p (range_with_len a n)) ≡ min (a + n) k - min a k
 count_below p k is not a zero = omega arith
-count_below p k is not a (suc n) = go (cases_lt a k) (count_below p k is not (a + 1) n)
-  where
-    go : (a < k) ⊎ (k ≤ a) → length (filter p (range_with_len (a + 1) n)) ≡ min (a + 1 + n) k - min (a + 1) k
-        → length (cond (p a) (a ∷ filter p (range_with_len (a + 1) n)) (filter p (range_with_len (a + 1) n))) ≡ min (a + suc n) k - min a k
-    go (inr l) ih = rw (not a l) (omega arith)
-    go (inl l) ih = rw (is a l) (omega arith)
+count_below p k is not a (suc n) =
+    let ih = count_below p k is not (a + 1) n in
+    elim (cases_lt a k) [ inl l ↦ rw (is a l) (omega arith) | inr l ↦ rw (not a l) (omega arith) ]
 
 pub below_pow : (s : ℕ) → s < 2 ^ s
 below_pow zero = omega arith

@@ -1,9 +1,9 @@
 -- Sums over lists in a lawful algebra. Assumes nothing.
-use Rattle.std.proofs.Common.{◌≡◌, ℕ, zero, suc, ◌+◌, ◌-◌, ◌<◌, ◌≤◌, Bool, true, false, cond, not, ◌&&◌, eqb, ◌⊎◌, List, [], ◌∷◌, ◌++◌, map, filter, sym, refl, ap, ◌∙◌, ap₂, inl, inr, add-zero, zero-add, arith}
+use Rattle.std.proofs.Common.{◌≡◌, ℕ, zero, suc, ◌+◌, ◌-◌, ◌<◌, ◌≤◌, Bool, true, false, cond, not, ◌&&◌, eqb, List, [], ◌∷◌, ◌++◌, map, filter, sym, refl, ap, ◌∙◌, ap₂, inl, inr, add-zero, zero-add, arith}
 use Rattle.std.specs.List.{range_with_len}
 use Rattle.algebra.specs.Semirings.{Semiring, LawfulSemiring}
 use Rattle.figures.specs.Sums.{over}
-use Rattle.std.proofs.lemmas.Bool.{eq-eqb, ne_eqb, cases_eq}
+use Rattle.std.proofs.lemmas.Bool.{eq-eqb, ne_eqb, cases_eq, cases_Bool}
 use Rattle.figures.specs.Lists.{In, gather}
 
 -- x where the test passes, and nothing elsewhere
@@ -33,10 +33,7 @@ module _ {M : Type 0} (A : Semiring M) (L : LawfulSemiring A) where
 
   -- (a + b) + (c + d) ≡ (a + c) + (b + d)
   pub plus_swap : (a b c d : M) → A.plus (A.plus a b) (A.plus c d) ≡ A.plus (A.plus a c) (A.plus b d)
-  plus_swap a b c d =
-      L.plus_assoc a b (A.plus c d)
-      ∙ ap (A.plus a) (sym (L.plus_assoc b c d) ∙ ap (λ x. A.plus x d) (L.plus_comm b c) ∙ L.plus_assoc c b d)
-      ∙ sym (L.plus_assoc a c (A.plus b d))
+  plus_swap a b c d = cc (L.plus_assoc a b (A.plus c d), L.plus_assoc b c d, L.plus_comm b c, L.plus_assoc c b d, L.plus_assoc a c (A.plus b d))
 
   pub times_nothing_r : (x : M) → A.times x A.nothing ≡ A.nothing
   times_nothing_r x = L.times_comm x A.nothing ∙ L.times_nothing x
@@ -54,12 +51,10 @@ module _ {M : Type 0} (A : Semiring M) (L : LawfulSemiring A) where
   pub over_kept : {B : Type 0} (p : B → Bool) (xs : List B) (f : B → M) → over A (filter p xs) f ≡ over A xs (λ x. when A (p x) (f x))
   unfolding over when
   over_kept p [] f = refl
-  over_kept p (x ∷ xs) f = go (p x) (over_kept p xs f)
-    where
-      go : (b : Bool) → over A (filter p xs) f ≡ over A xs (λ y. when A (p y) (f y))
-          → over A (cond b (x ∷ filter p xs) (filter p xs)) f ≡ A.plus (when A b (f x)) (over A xs (λ y. when A (p y) (f y)))
-      go true ih = ap (A.plus (f x)) ih
-      go false ih = ih ∙ sym (L.plus_nothing (over A xs (λ y. when A (p y) (f y))))
+  over_kept p (x ∷ xs) f = elim (cases_Bool (p x)) [
+    | inl g ↦ rw (g, over) (ap (A.plus (f x)) (over_kept p xs f))
+    | inr g ↦ rw (g, over) (over_kept p xs f ∙ sym (L.plus_nothing (over A xs (λ y. when A (p y) (f y)))))
+  ]
 
   pub over_nothing : {B : Type 0} (xs : List B) → over A xs (λ x. A.nothing) ≡ A.nothing
   unfolding over
@@ -129,16 +124,13 @@ module _ {M : Type 0} (A : Semiring M) (L : LawfulSemiring A) where
   pub pick_one : (c n : ℕ) (f : ℕ → M) → c < n → over A (range_with_len 0 n) (λ b. when A (eqb c b) (f b)) ≡ f c
   unfolding over when
   pick_one c zero f h = absurd (omega arith)
-  pick_one c (suc n) f h = range_last 0 n (λ b. when A (eqb c b) (f b)) ∙ go (pick_one c n f) (cases_eq c (0 + n))
-    where
-      go : (c < n → over A (range_with_len 0 n) (λ b. when A (eqb c b) (f b)) ≡ f c) → (c ≡ 0 + n) ⊎ (c ≡ 0 + n → ⊥)
-          → A.plus (over A (range_with_len 0 n) (λ b. when A (eqb c b) (f b))) (when A (eqb c (0 + n)) (f (0 + n))) ≡ f c
-      go ih (inl e) =
-          ap₂ A.plus (pick_none c n f (omega arith)) (ap (λ b. when A b (f (0 + n))) (eq-eqb c (0 + n) e))
-          ∙ L.plus_nothing (f (0 + n)) ∙ ap f (sym e)
-      go ih (inr e) =
-          ap₂ A.plus (ih (omega arith)) (ap (λ b. when A b (f (0 + n))) (ne_eqb c (0 + n) e))
-          ∙ plus_nothing_r (f c)
+  pick_one c (suc n) f h = range_last 0 n (λ b. when A (eqb c b) (f b)) ∙ elim (cases_eq c (0 + n)) [
+    | inl e ↦
+        ap₂ A.plus (pick_none c n f (omega arith)) (ap (λ b. when A b (f (0 + n))) (eq-eqb c (0 + n) e))
+        ∙ L.plus_nothing (f (0 + n)) ∙ ap f (sym e)
+    | inr e ↦
+        ap₂ A.plus (pick_one c n f (omega arith)) (ap (λ b. when A b (f (0 + n))) (ne_eqb c (0 + n) e)) ∙ plus_nothing_r (f c)
+  ]
 
   pub when_nothing : (b : Bool) → when A b A.nothing ≡ A.nothing
   unfolding when

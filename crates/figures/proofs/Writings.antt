@@ -1,5 +1,5 @@
 -- Of the ways to write a filled bracket, one and only one has the half with the lowest entrant first throughout. Assumes nothing.
-use Rattle.std.proofs.Common.{◌≡◌, ℕ, ◌+◌, ◌-◌, ◌^◌, ◌<◌, Bool, true, false, not, None, sym, refl, ap, ◌∙◌, subst, ap₂, inl, inr, arith, pow_pos}
+use Rattle.std.proofs.Common.{◌≡◌, ℕ, ◌+◌, ◌-◌, ◌^◌, ◌<◌, Bool, true, false, not, None, sym, refl, ap, ◌∙◌, ap₂, inl, inr, arith, pow_pos}
 use lib.Bits.{and_comm}
 use Rattle.std.proofs.lemmas.Bool.{both_ways}
 use Rattle.figures.specs.Sets.{has, Member, Lowest, lowest, Apart}
@@ -10,7 +10,7 @@ use Rattle.figures.specs.Figures.{worth}
 use Rattle.figures.specs.Writings.{other, Same, Written}
 use Rattle.figures.specs.Theorems.{LowestFirstOnce, SameWorth}
 use Rattle.figures.proofs.Rounds.{below_pow}
-use Rattle.figures.proofs.Bits.{Part, has_rest, part_sum}
+use Rattle.figures.proofs.Bits.{has_rest, part_sum}
 use Rattle.figures.proofs.Listed.{lowest_is, lowest_same}
 
 -- a bracket stands on somebody
@@ -41,9 +41,8 @@ the_lowest s h =
 -- a member of a + b is in b where it is not in a
 in_rest : (a b s e : ℕ) → a + b ≡ s → Apart a b → Member s e → has b e ≡ not (has a e)
 in_rest a b s e q p m =
-    let P : ℕ → Type 0 = λ x. Part a x in
     let d : s - a ≡ b = omega arith in
-    ap (λ (x : ℕ). has x e) (sym d) ∙ has_rest s a e (subst P q (part_sum a b p)) m
+    rw (← d) (has_rest s a e (rw (← q) (part_sum a b p)) m)
 
 same_set : (t u : Filled) (s z : ℕ) → Written s t → Written z u → Same t u → s ≡ z
 same_set (sole e) (sole d) s z p q h = p ∙ ap (λ (x : ℕ). 2 ^ x) h ∙ sym q
@@ -67,10 +66,8 @@ same_on s (match v l r) (match w m n) p q (inl h) =
     let d = q.halved in
     let x = same_set l m c.a d.a (loose c.a l c.on_first) (loose d.a m d.on_first) h.1 in
     let y = same_set r n c.b d.b (loose c.b r c.on_second) (loose d.b n d.on_second) h.2 in
-    let P : ℕ → Type 0 = λ z. On z m in
-    let Q : ℕ → Type 0 = λ z. On z n in
-    let i = same_on c.a l m c.on_first (subst P (sym x) d.on_first) h.1 in
-    let j = same_on c.b r n c.on_second (subst Q (sym y) d.on_second) h.2 in
+    let i = same_on c.a l m c.on_first (rw x d.on_first) h.1 in
+    let j = same_on c.b r n c.on_second (rw y d.on_second) h.2 in
     let k = h.0 in
     cc
 same_on s (match v l r) (match w m n) p q (inr h) =
@@ -80,9 +77,7 @@ same_on s (match v l r) (match w m n) p q (inr h) =
     let low = the_lowest s (somebody s (match v l r) (loose s (match v l r) p)) in
     let e = low.0 in
     let o = low.1 in
-    let P : ℕ → Type 0 = λ z. Member z e in
-    let in_b : Member c.b e = subst P (sym y) (q.lowest_first e o) in
-    absurd (both_ways (has c.b e) (in_rest c.a c.b s e c.sum c.apart o.0 ∙ ap not (p.lowest_first e o)) in_b)
+    absurd (both_ways (has c.b e) (in_rest c.a c.b s e c.sum c.apart o.0 ∙ ap not (p.lowest_first e o)) (rw (← y) at (q.lowest_first e o)))
 
 other_other : (s : Side) → s ≡ other (other s)
 other_other first = refl
@@ -111,9 +106,6 @@ same_both (match v l r) (match w m n) (match x i j) (inr h) (inl g) =
 same_both (match v l r) (match w m n) (match x i j) (inr h) (inr g) =
     inl (h.0 ∙ ap other g.0 ∙ sym (other_other x), same_both l n i h.1 g.2, same_both r m j h.2 g.1)
 
-no_other_lem : (s : ℕ) (t u v : Filled) → On s u → On s v → Same t u → Same t v → u ≡ v
-no_other_lem s t u v p q h g = same_on s u v p q (same_both u t v (same_back t u h) g)
-
 some : (s : ℕ) (t : Filled) → Written s t → (u : Filled) × On s u × Same t u
 some s (sole e) p = (sole e, p, refl)
 some s (match v l r) p = go (some p.a l p.on_first) (some p.b r p.on_second) (has p.a low.0) refl
@@ -122,7 +114,7 @@ some s (match v l r) p = go (some p.a l p.on_first) (some p.b r p.on_second) (ha
     low = the_lowest s (somebody s (match v l r) p)
 
     moved : (c : ℕ) → Member c low.0 → (e : ℕ) → Lowest s e → Member c e
-    moved c m e z = let P : ℕ → Type 0 = λ x. Member c x in subst P (lowest_same s low.0 e low.1 z) m
+    moved c m e z = rw (← lowest_same s low.0 e low.1 z) m
 
     go : ((u : Filled) × On p.a u × Same l u) → ((u : Filled) × On p.b u × Same r u) → (t : Bool) → has p.a low.0 ≡ t
         → (u : Filled) × On s u × Same (match v l r) u
@@ -167,7 +159,7 @@ same_champion_lem (match v l r) (match w m n) (inr h) =
     turn second x y = refl
 
 pub lowest_first_once : LowestFirstOnce
-lowest_first_once = record { some = some; no_other = no_other_lem; same_champion = same_champion_lem }
+lowest_first_once = record { some = some; no_other = λ s t u v p q h g. same_on s u v p q (same_both u t v (same_back t u h) g); same_champion = same_champion_lem }
 
 -- a match is worth the same from either side
 match_worth : {M : Type 0} (A : Semiring M) → LawfulSemiring A → (f : Field) (w : Side) (l r : Filled) → worth A f (match (other w) l r) ≡ worth A f (match w r l)

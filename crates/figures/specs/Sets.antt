@@ -36,6 +36,10 @@ members f s = filter (has s) (range_with_len 0 f.size)
 unfoldable pub lowest : Field → ℕ → ℕ
 lowest f s = slice_index (members f s) 0
 
+-- the members of s whom a number of 32 digits can have, rising
+unfoldable pub all_members : ℕ → List ℕ
+all_members s = filter (has s) (range_with_len 0 32)
+
 -- The halves of s that hold e, by rising number. Whatever takes halves takes them from here: a field that allowed fewer
 -- of them would change this definition, and no other.
 unfoldable pub halves : Field → ℕ → ℕ → List ℕ

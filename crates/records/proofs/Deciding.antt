@@ -1,10 +1,11 @@
 -- Words meet no refusal exactly where they are a record, and a record tells its bracket. Assumes nothing.
-use Rattle.std.proofs.Common.{◌≡◌, ℕ, ◌-◌, ◌^◌, ◌<◌, ◌≤◌, true, ◌||◌, eqb, ◌⊎◌, List, [], ◌++◌, length, Some, None, sym, ap, ◌∙◌, subst, ap₂, inl, inr, append-nil, arith, pow_mono}
+use Rattle.std.proofs.Common.{◌≡◌, ℕ, ◌-◌, ◌^◌, ◌<◌, ◌≤◌, true, eqb, ◌⊎◌, List, [], ◌++◌, length, Some, None, sym, refl, ap, ◌∙◌, subst, ap₂, inl, inr, append-nil, arith, pow_mono}
 use lib.Bits.{and_zero_l}
-use lib.Count.{ones-ones}
+use lib.Count.{count_trailing_zeros, ones-ones}
 use lib.Pow.{ones_lt}
 use Rattle.std.proofs.lemmas.List.{drop_all}
-use Rattle.std.proofs.lemmas.Bool.{eqb-true, eq-eqb, or_cases, cond-true}
+use Rattle.std.proofs.lemmas.Bool.{eqb-true, eq-eqb, cond-true}
+use Rattle.std.proofs.lemmas.Bool.Decides.{nat_tests}
 use Rattle.facts.specs.declared.refusals.Refusal.TheVariants.{RecordLengthWrong, MatchImpossible}
 use Rattle.facts.specs.Fields.{legal}
 use Rattle.figures.specs.Brackets.{Filled, On, rounds}
@@ -27,35 +28,31 @@ pub record Sized (n : ℕ) : Type 0 where
   pub some : 1 ≤ rounds n
   pub few : rounds n ≤ 4
   pub most : n ≤ 16
+  pub zeros : count_trailing_zeros 64 n ≡ rounds n
 
-pub legal_cases : (n : ℕ) → legal n ≡ true → (n ≡ 2) ⊎ ((n ≡ 4) ⊎ ((n ≡ 8) ⊎ (n ≡ 16)))
-legal_cases n h = two (or_cases (eqb n 2) (eqb n 4 || (eqb n 8 || eqb n 16)) h)
-  where
-    eight : (eqb n 8 ≡ true) ⊎ (eqb n 16 ≡ true) → (n ≡ 8) ⊎ (n ≡ 16)
-    eight (inl e) = inl (eqb-true n 8 e)
-    eight (inr e) = inr (eqb-true n 16 e)
-
-    four : (eqb n 4 ≡ true) ⊎ ((eqb n 8 || eqb n 16) ≡ true) → (n ≡ 4) ⊎ ((n ≡ 8) ⊎ (n ≡ 16))
-    four (inl e) = inl (eqb-true n 4 e)
-    four (inr e) = inr (eight (or_cases (eqb n 8) (eqb n 16) e))
-
-    two : (eqb n 2 ≡ true) ⊎ ((eqb n 4 || (eqb n 8 || eqb n 16)) ≡ true) → (n ≡ 2) ⊎ ((n ≡ 4) ⊎ ((n ≡ 8) ⊎ (n ≡ 16)))
-    two (inl e) = inl (eqb-true n 2 e)
-    two (inr e) = inr (four (or_cases (eqb n 4) (eqb n 8 || eqb n 16) e))
+legal_cases : (n : ℕ) → legal n ≡ true → (n ≡ 2) ⊎ ((n ≡ 4) ⊎ ((n ≡ 8) ⊎ (n ≡ 16)))
+legal_cases n h = grind (arith, nat_tests)
 
 pub sized : (n : ℕ) → legal n ≡ true → Sized n
+unfolding count_trailing_zeros
 sized n h = go (legal_cases n h)
   where
-    of : (k : ℕ) → 1 ≤ k → k ≤ 4 → n ≡ 2 ^ k → Sized n
-    of k some few e =
+    of : (k : ℕ) → 1 ≤ k → k ≤ 4 → count_trailing_zeros 64 (2 ^ k) ≡ k → n ≡ 2 ^ k → Sized n
+    of k some few zeros e =
         let r : rounds n ≡ k = ap rounds e ∙ rounds_pow k in
-        record { power = e ∙ ap (λ (j : ℕ). 2 ^ j) (sym r); some = omega arith; few = omega arith; most = omega (arith, pow_mono {i = k} {j = 4} few) }
+        record {
+          power = e ∙ ap (λ (j : ℕ). 2 ^ j) (sym r);
+          some = omega arith;
+          few = omega arith;
+          most = omega (arith, pow_mono {i = k} {j = 4} few);
+          zeros = ap (count_trailing_zeros 64) e ∙ zeros ∙ sym r;
+        }
 
     go : (n ≡ 2) ⊎ ((n ≡ 4) ⊎ ((n ≡ 8) ⊎ (n ≡ 16))) → Sized n
-    go (inl e) = of 1 (omega arith) (omega arith) e
-    go (inr (inl e)) = of 2 (omega arith) (omega arith) e
-    go (inr (inr (inl e))) = of 3 (omega arith) (omega arith) e
-    go (inr (inr (inr e))) = of 4 (omega arith) (omega arith) e
+    go (inl e) = of 1 (omega arith) (omega arith) refl e
+    go (inr (inl e)) = of 2 (omega arith) (omega arith) refl e
+    go (inr (inr (inl e))) = of 3 (omega arith) (omega arith) refl e
+    go (inr (inr (inr e))) = of 4 (omega arith) (omega arith) refl e
 
 -- ---- no refusal: a record
 

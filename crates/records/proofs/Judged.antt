@@ -1,8 +1,8 @@
 -- The verdict on words. Assumes nothing.
-use Rattle.std.proofs.Common.{◌≡◌, ℕ, ◌-◌, ◌^◌, Bool, true, false, eqb, List, length, Some, None, Ok, Err, Option, Result, sym, ap, ◌∙◌, ap₂, append-nil, arith}
-use Rattle.std.proofs.lemmas.Bool.{eq-eqb, ne_eqb, cond-true, cond-false}
+use Rattle.std.proofs.Common.{◌≡◌, ℕ, ◌-◌, ◌^◌, true, List, length, Some, None, Ok, Err, Result, sym, ap, ◌∙◌, ap₂, append-nil, arith}
+use Rattle.std.proofs.lemmas.Bool.Decides.{nat_tests}
 use Rattle.facts.specs.declared.refusals.Refusal.{Refusal}
-use Rattle.facts.specs.declared.refusals.Refusal.TheVariants.{RecordLengthWrong, MatchImpossible}
+use Rattle.facts.specs.declared.refusals.Refusal.TheVariants.{RecordLengthWrong}
 use Rattle.facts.specs.Fields.{legal}
 use Rattle.algebra.specs.Semirings.{Semiring, LawfulSemiring}
 use Rattle.figures.specs.Brackets.{Filled, champion, rounds}
@@ -11,7 +11,7 @@ use Rattle.figures.specs.Figures.{worth}
 use Rattle.records.specs.declared.verdict.Verdict.{Verdict}
 use Rattle.records.specs.Records.{record_words, word_count}
 use Rattle.records.specs.Places.{places, first_of}
-use Rattle.records.specs.Matches.{champion_in, agrees}
+use Rattle.records.specs.Matches.{champion_in}
 use Rattle.records.specs.Readings.{wins_in}
 use Rattle.records.specs.Refusing.{place_refusal, matches_refusal, record_refusal}
 use Rattle.records.specs.Verdicts.{RecordOf, AcceptsRecords, RefusesByTheFirst}
@@ -23,38 +23,18 @@ use Rattle.records.proofs.Weighing.{worth_is}
 
 module _ (n : ℕ) (ws : List ℕ) where
   pub wrong_length : (length ws ≡ word_count n → ⊥) → record_refusal n ws ≡ Some RecordLengthWrong
-  wrong_length h =
-      ap (λ o. first_of o (first_of (place_refusal n ws) (matches_refusal n ws)))
-      (cond-false (eqb (length ws) (word_count n)) None (Some RecordLengthWrong) (ne_eqb (length ws) (word_count n) h))
+  wrong_length h = grind (arith, nat_tests)
 
-  by_place : length ws ≡ word_count n → record_refusal n ws ≡ first_of (place_refusal n ws) (matches_refusal n ws)
-  by_place h =
-      ap (λ o. first_of o (first_of (place_refusal n ws) (matches_refusal n ws)))
-      (cond-true (eqb (length ws) (word_count n)) None (Some RecordLengthWrong) (eq-eqb (length ws) (word_count n) h))
-
-  pub wrong_place : (e : Refusal) → length ws ≡ word_count n → place_refusal n ws ≡ Some e → record_refusal n ws ≡ Some e
-  wrong_place e h p = by_place h ∙ ap (λ o. first_of o (matches_refusal n ws)) p
-
-  -- b is what is found of the matches
-  pub wrong_match : (b : Bool) → length ws ≡ word_count n → place_refusal n ws ≡ None → b ≡ agrees (rounds n) ws → b ≡ false → record_refusal n ws ≡ Some MatchImpossible
-  wrong_match b h p is a = by_place h ∙ ap₂ first_of p (cond-false (agrees (rounds n) ws) None (Some MatchImpossible) (sym is ∙ a))
-
-  pub nothing_wrong : (b : Bool) → length ws ≡ word_count n → place_refusal n ws ≡ None → b ≡ agrees (rounds n) ws → b ≡ true → record_refusal n ws ≡ None
-  nothing_wrong b h p is a = by_place h ∙ ap₂ first_of p (cond-true (agrees (rounds n) ws) None (Some MatchImpossible) (sym is ∙ a))
+  pub right_length : length ws ≡ word_count n → record_refusal n ws ≡ first_of (place_refusal n ws) (matches_refusal n ws)
+  right_length h = grind (arith, nat_tests)
 
 -- ---- the verdict
 
 module _ {V M : Type 0} (means : V → M) (A : Semiring M) (law : LawfulSemiring A) (f : Field) (fits : legal f.size ≡ true) (ws : List ℕ) where
-  pub refused : (e : Refusal) → record_refusal f.size ws ≡ Some e → AcceptsRecords means A f ws (Err e) × RefusesByTheFirst {V = V} f.size ws (Err e)
-  refused e h = (
-    (λ c x. (
-      (λ p. let q = p.1 in let z : ◌≡◌ {A = ℕ} 0 1 = cc in absurd (omega arith)),
-      λ y. let d = (refused_exactly f.size ws fits).1 (y.0, y.1) in let z : ◌≡◌ {A = ℕ} 0 1 = cc in absurd (omega arith),
-    )),
-    λ u. (
-      (λ p. let q : e ≡ u = cc in h ∙ ap {B = Option Refusal} (λ (v : Refusal). Some v) q),
-      λ p. let q : e ≡ u = cc in ap {B = Result (Verdict V) Refusal} (λ (v : Refusal). Err v) q,
-    ),
+  pub none_accepted : (e : Refusal) → record_refusal f.size ws ≡ Some e → AcceptsRecords means A f ws (Err e)
+  none_accepted e h c x = (
+    λ p. cc p.1,
+    λ y. cc ((refused_exactly f.size ws fits).1 (y.0, y.1)),
   )
 
   -- the champion and the worth of the bracket that the words record
@@ -70,23 +50,20 @@ module _ {V M : Type 0} (means : V → M) (A : Semiring M) (law : LawfulSemiring
       ∙ ap₂ (wins_in A f) (ap places (level f.size z t on)) (sym is)
 
   pub accepted : (c : ℕ) (v : V) → record_refusal f.size ws ≡ None → c ≡ champion_in ws → means v ≡ wins_in A f (places (rounds f.size)) ws
-      → AcceptsRecords means A f ws (Ok (record { champion = c; weight = v })) × RefusesByTheFirst {V = V} f.size ws (Ok (record { champion = c; weight = v }))
-  accepted c v none wins weighs =
+      → AcceptsRecords means A f ws (Ok (record { champion = c; weight = v }))
+  accepted c v none wins weighs d x =
       let t = (refused_exactly f.size ws fits).0 none in (
-        (λ d x. (
-          (λ p.
-              let both : ◌≡◌ {A = Verdict V} (record { champion = c; weight = v }) (record { champion = d; weight = p.0 }) = cc p.1 in
-              let c-is : c ≡ d = ap (λ (r : Verdict V). r.champion) both in
-              let v-is : v ≡ p.0 = ap (λ (r : Verdict V). r.weight) both in
-              (t.0, t.1, champion_is t.0 t.1 ∙ sym wins ∙ c-is, worth_of t.0 t.1 ∙ sym weighs ∙ ap means v-is ∙ p.2)),
-          λ p. (
-            v,
-            ap {B = Result (Verdict V) Refusal} (λ (j : ℕ). Ok (record { champion = j; weight = v })) (wins ∙ sym (champion_is p.0 p.1) ∙ p.2),
-            weighs ∙ sym (worth_of p.0 p.1) ∙ p.3,
-          ),
-        )),
-        λ u. (
-          (λ p. let z : ◌≡◌ {A = ℕ} 0 1 = cc in absurd (omega arith)),
-          λ p. let z : ◌≡◌ {A = ℕ} 0 1 = cc in absurd (omega arith),
+        (λ p.
+            let both : ◌≡◌ {A = Verdict V} (record { champion = c; weight = v }) (record { champion = d; weight = p.0 }) = cc p.1 in
+            let c-is : c ≡ d = ap (λ (r : Verdict V). r.champion) both in
+            let v-is : v ≡ p.0 = ap (λ (r : Verdict V). r.weight) both in
+            (t.0, t.1, champion_is t.0 t.1 ∙ sym wins ∙ c-is, worth_of t.0 t.1 ∙ sym weighs ∙ ap means v-is ∙ p.2)),
+        λ p. (
+          v,
+          ap {B = Result (Verdict V) Refusal} (λ (j : ℕ). Ok (record { champion = j; weight = v })) (wins ∙ sym (champion_is p.0 p.1) ∙ p.2),
+          weighs ∙ sym (worth_of p.0 p.1) ∙ p.3,
         ),
       )
+
+pub refused_by : {V : Type 0} (n : ℕ) (ws : List ℕ) (e : Refusal) → record_refusal n ws ≡ Some e → RefusesByTheFirst {V = V} n ws (Err e)
+refused_by n ws e h u = (λ p. cc, λ p. cc)

@@ -1,6 +1,6 @@
 -- What one pass over the words finds, step by step. Assumes nothing.
 use Rattle.std.proofs.Common.{◌≡◌, ℕ, zero, suc, ◌+◌, ◌-◌, ◌*◌, ◌^◌, ◌≤◌, min, Bool, true, false, ◌&&◌, List, [], ◌∷◌, ◌++◌, length, get_or, Some, None, Ok, Err, Option, Result, sym, refl, ap, ◌∙◌, ap₂, append_assoc, arith, length-drop, pow_pos}
-use mathlib.Core.Bool.{and-true, and-false, and_assoc}
+use mathlib.Core.Bool.{and-true, and-false}
 use lib.Bits.{bit_or}
 use Rattle.std.proofs.lemmas.List.{get_or-drop}
 use Rattle.std.proofs.lemmas.Bool.{and_parts}
@@ -76,57 +76,77 @@ all_agree (suc k) ks (w ∷ ws) l =
 
 -- ---- the pass
 
+module _ {M : Type 0} (A : Semiring M) where
+  -- a product with one more factor: none where the match is not fair, or one before it was not
+  abbrev pub grown : Option M → Bool → M → Option M
+  grown (Some x) true y = Some (A.times x y)
+  grown (Some x) false y = None
+  grown None b y = None
+
+  module _ (law : LawfulSemiring A) where
+    grown_no_more : (x : Option M) → x ≡ grown x true A.one
+    grown_no_more (Some x) = ap {B = Option M} (λ (y : M). Some y) (sym (law.times_comm x A.one ∙ law.times_one x))
+    grown_no_more None = refl
+
+    grown_on : (x : Option M) (b c : Bool) (y z : M) → grown (grown x b y) c z ≡ grown x (b && c) (A.times y z)
+    grown_on (Some x) true true y z = ap {B = Option M} (λ (v : M). Some v) (law.times_assoc x y z)
+    grown_on (Some x) true false y z = refl
+    grown_on (Some x) false c y z = refl
+    grown_on None b c y z = refl
+
 module _ {M : Type 0} (A : Semiring M) (f : Field) where
-  abbrev pub after : Option Refusal → Result (Bool × M) Refusal → Result (Bool × M) Refusal
+  abbrev pub after : Option Refusal → Result (Option M) Refusal → Result (Option M) Refusal
   after (Some e) later = Err e
   after None later = later
 
-  -- what the pass finds from here on, with the entrants seen, whether all was fair, and the product so far
-  abbrev pub outcome : ℕ → Bool → M → List ℕ → List ℕ → Result (Bool × M) Refusal
-  outcome seen b x [] ws = Ok (b, x)
-  outcome seen b x (zero ∷ ks) [] = Ok (b, x)
-  outcome seen b x (suc k ∷ ks) [] = Ok (b, x)
-  outcome seen b x (zero ∷ ks) (w ∷ ws) = after (leaf_refusal f.size seen w) (outcome (bit_or seen (2 ^ w)) b x ks ws)
-  outcome seen b x (suc k ∷ ks) (w ∷ ws) =
-      after (match_refusal w) (outcome seen (b && fair_here (suc k) (match_in w) ws) (A.times x (win_of A f (match_in w))) ks ws)
+  -- what the pass finds from here on, with the entrants seen and the product so far
+  abbrev pub outcome : ℕ → Option M → List ℕ → List ℕ → Result (Option M) Refusal
+  outcome seen x [] ws = Ok x
+  outcome seen x (zero ∷ ks) [] = Ok x
+  outcome seen x (suc k ∷ ks) [] = Ok x
+  outcome seen x (zero ∷ ks) (w ∷ ws) = after (leaf_refusal f.size seen w) (outcome (bit_or seen (2 ^ w)) x ks ws)
+  outcome seen x (suc k ∷ ks) (w ∷ ws) =
+      after (match_refusal w) (outcome seen (grown A x (fair_here (suc k) (match_in w) ws) (win_of A f (match_in w))) ks ws)
 
-  abbrev pub concluded : Option Refusal → Bool → M → Result (Bool × M) Refusal
-  concluded (Some e) b x = Err e
-  concluded None b x = Ok (b, x)
+  abbrev pub concluded : Option Refusal → Option M → Result (Option M) Refusal
+  concluded (Some e) x = Err e
+  concluded None x = Ok x
 
-  pub nothing_left : (seen : ℕ) (b : Bool) (x : M) (ks ws : List ℕ) → length ws ≡ 0 → outcome seen b x ks ws ≡ Ok (b, x)
-  nothing_left seen b x [] ws h = refl
-  nothing_left seen b x (zero ∷ ks) [] h = refl
-  nothing_left seen b x (suc k ∷ ks) [] h = refl
-  nothing_left seen b x (zero ∷ ks) (w ∷ ws) h = absurd (omega (arith, h))
-  nothing_left seen b x (suc k ∷ ks) (w ∷ ws) h = absurd (omega (arith, h))
+  pub nothing_left : (seen : ℕ) (x : Option M) (ks ws : List ℕ) → length ws ≡ 0 → outcome seen x ks ws ≡ Ok x
+  nothing_left seen x [] ws h = refl
+  nothing_left seen x (zero ∷ ks) [] h = refl
+  nothing_left seen x (suc k ∷ ks) [] h = refl
+  nothing_left seen x (zero ∷ ks) (w ∷ ws) h = absurd (omega (arith, h))
+  nothing_left seen x (suc k ∷ ks) (w ∷ ws) h = absurd (omega (arith, h))
 
   module _ (law : LawfulSemiring A) where
-    at_end : (b : Bool) (x : M) → Ok (b, x) ≡ concluded None (b && true) (A.times x A.one)
-    at_end b x =
-        ap₂ {C = Result (Bool × M) Refusal} (λ (c : Bool) (y : M). Ok (c, y)) (sym (and-true b)) (sym (law.times_comm x A.one ∙ law.times_one x))
+    at_end : (x : Option M) → Ok x ≡ concluded None (grown A x true A.one)
+    at_end x = ap {B = Result (Option M) Refusal} (λ (y : Option M). Ok y) (grown_no_more A law x)
 
-    pub outcome_is : (seen : ℕ) (b : Bool) (x : M) (ks ws : List ℕ)
-        → outcome seen b x ks ws ≡ concluded (misplaced f.size seen ks ws) (b && all_fair ks ws) (A.times x (wins_in A f ks ws))
-    outcome_is seen b x [] ws = at_end b x
-    outcome_is seen b x (zero ∷ ks) [] = at_end b x
-    outcome_is seen b x (suc k ∷ ks) [] = at_end b x
-    outcome_is seen b x (zero ∷ ks) (w ∷ ws) = go (leaf_refusal f.size seen w) (outcome_is (bit_or seen (2 ^ w)) b x ks ws)
+    pub outcome_is : (seen : ℕ) (x : Option M) (ks ws : List ℕ)
+        → outcome seen x ks ws ≡ concluded (misplaced f.size seen ks ws) (grown A x (all_fair ks ws) (wins_in A f ks ws))
+    outcome_is seen x [] ws = at_end x
+    outcome_is seen x (zero ∷ ks) [] = at_end x
+    outcome_is seen x (suc k ∷ ks) [] = at_end x
+    outcome_is seen x (zero ∷ ks) (w ∷ ws) = go (leaf_refusal f.size seen w) (outcome_is (bit_or seen (2 ^ w)) x ks ws)
       where
         go : (o : Option Refusal)
-            → outcome (bit_or seen (2 ^ w)) b x ks ws ≡ concluded (misplaced f.size (bit_or seen (2 ^ w)) ks ws) (b && all_fair ks ws) (A.times x (wins_in A f ks ws))
-            → after o (outcome (bit_or seen (2 ^ w)) b x ks ws)
-            ≡ concluded (first_of o (misplaced f.size (bit_or seen (2 ^ w)) ks ws)) (b && all_fair ks ws) (A.times x (wins_in A f ks ws))
+            → outcome (bit_or seen (2 ^ w)) x ks ws ≡ concluded (misplaced f.size (bit_or seen (2 ^ w)) ks ws) (grown A x (all_fair ks ws) (wins_in A f ks ws))
+            → after o (outcome (bit_or seen (2 ^ w)) x ks ws)
+            ≡ concluded (first_of o (misplaced f.size (bit_or seen (2 ^ w)) ks ws)) (grown A x (all_fair ks ws) (wins_in A f ks ws))
         go (Some e) ih = refl
         go None ih = ih
-    outcome_is seen b x (suc k ∷ ks) (w ∷ ws) =
-        go (match_refusal w) (outcome_is seen (b && fair_here (suc k) (match_in w) ws) (A.times x (win_of A f (match_in w))) ks ws)
+    outcome_is seen x (suc k ∷ ks) (w ∷ ws) = go (match_refusal w) (outcome_is seen (grown A x b y) ks ws)
       where
+        b : Bool
+        b = fair_here (suc k) (match_in w) ws
+
+        y : M
+        y = win_of A f (match_in w)
+
         go : (o : Option Refusal)
-            → outcome seen (b && fair_here (suc k) (match_in w) ws) (A.times x (win_of A f (match_in w))) ks ws
-            ≡ concluded (misplaced f.size seen ks ws) ((b && fair_here (suc k) (match_in w) ws) && all_fair ks ws) (A.times (A.times x (win_of A f (match_in w))) (wins_in A f ks ws))
-            → after o (outcome seen (b && fair_here (suc k) (match_in w) ws) (A.times x (win_of A f (match_in w))) ks ws)
-            ≡ concluded (first_of o (misplaced f.size seen ks ws)) (b && (fair_here (suc k) (match_in w) ws && all_fair ks ws)) (A.times x (A.times (win_of A f (match_in w)) (wins_in A f ks ws)))
+            → outcome seen (grown A x b y) ks ws ≡ concluded (misplaced f.size seen ks ws) (grown A (grown A x b y) (all_fair ks ws) (wins_in A f ks ws))
+            → after o (outcome seen (grown A x b y) ks ws)
+            ≡ concluded (first_of o (misplaced f.size seen ks ws)) (grown A x (b && all_fair ks ws) (A.times y (wins_in A f ks ws)))
         go (Some e) ih = refl
-        go None ih =
-            ih ∙ ap₂ (concluded (misplaced f.size seen ks ws)) (and_assoc b (fair_here (suc k) (match_in w) ws) (all_fair ks ws)) (law.times_assoc x (win_of A f (match_in w)) (wins_in A f ks ws))
+        go None ih = ih ∙ ap (concluded (misplaced f.size seen ks ws)) (grown_on A law x b (all_fair ks ws) y (wins_in A f ks ws))

@@ -1,15 +1,14 @@
 -- What one pass over the words finds.
-use Rattle.std.specs.Prelude.{◌≡◌, ℕ, zero, suc, List, [], ◌∷◌, Some, None, Ok, Err, Result}
+use Rattle.std.specs.Prelude.{◌≡◌, ℕ, zero, suc, List, [], ◌∷◌, Result}
 use Rattle.facts.specs.declared.refusals.Refusal.{Refusal}
+use Rattle.facts.specs.Outcomes.{Answered}
 use Rattle.algebra.specs.Semirings.{Semiring}
 use Rattle.figures.specs.Brackets.{rounds}
 use Rattle.figures.specs.Fields.{Field}
-use Rattle.records.specs.declared.reading.Reading.{Reading}
 use Rattle.records.specs.declared.words.Match.{Match}
 use Rattle.records.specs.Words.{match_in}
-use Rattle.records.specs.Places.{places}
-use Rattle.records.specs.Matches.{agrees}
-use Rattle.records.specs.Refusing.{place_refusal}
+use Rattle.records.specs.Places.{places, first_of}
+use Rattle.records.specs.Refusing.{place_refusal, matches_refusal}
 
 module _ {M : Type 0} (A : Semiring M) (f : Field) where
   -- what the winner's beating the loser is worth
@@ -24,10 +23,8 @@ module _ {M : Type 0} (A : Semiring M) (f : Field) where
   wins_in (zero ∷ ks) (w ∷ ws) = wins_in ks ws
   wins_in (suc k ∷ ks) (w ∷ ws) = A.times (win_of (match_in w)) (wins_in ks ws)
 
--- the first word that its place does not take; or whether the matches agree, and the product of what their wins are worth
-abbrev pub Read : {V M : Type 0} → (V → M) → Semiring M → Field → List ℕ → Result (Reading V) Refusal → Type 0
-Read means A f ws (Err e) = place_refusal f.size ws ≡ Some e
-Read means A f ws (Ok found) =
-    (place_refusal f.size ws ≡ None)
-    × (found.fair ≡ agrees (rounds f.size) ws)
-    × (means found.weight ≡ wins_in A f (places (rounds f.size)) ws)
+-- the refusal of the first word that its place does not take, or else of the matches, if some match does not agree with what is
+-- beneath it; and where there is none, the product of what the wins are worth
+abbrev pub Read : {V M : Type 0} → (V → M) → Semiring M → Field → List ℕ → Result V Refusal → Type 0
+Read means A f ws r =
+    Answered (first_of (place_refusal f.size ws) (matches_refusal f.size ws)) (λ v. means v ≡ wins_in A f (places (rounds f.size)) ws) r

@@ -1,6 +1,8 @@
 -- The words of a record. A word has 32 bits; the top three are its kind.
-use Rattle.std.specs.Prelude.{ℕ, ◌+◌, ◌*◌, ◌/◌, ◌%◌, ◌^◌, Bool, ◌&&◌, ◌==◌}
+use Rattle.std.specs.Prelude.{ℕ, ◌+◌, ◌*◌, ◌/◌, ◌%◌, ◌^◌, Bool, cond, ◌&&◌, ◌==◌}
 use Rattle.records.specs.declared.words.Match.{Match}
+use Rattle.records.specs.declared.words.Word.{Word}
+use Rattle.records.specs.declared.words.Word.TheVariants.{Leaf, Match as match_told, Stray}
 
 -- the word of a leaf: kind 0, the entrant in bits 3 to 0
 abbrev pub leaf_word : ℕ → ℕ
@@ -25,3 +27,7 @@ named w = w % 2 ^ 4
 -- the match that a word tells of
 abbrev pub match_in : ℕ → Match
 match_in w = record { round = w / 2 ^ 8 % 2 ^ 4; winner = named w; loser = w / 2 ^ 4 % 2 ^ 4 }
+
+-- the word that the bits say: a stray one where the kind is another or an unused bit is set
+abbrev pub word_of : ℕ → Word
+word_of w = cond (leaf_shaped w) (Leaf (named w)) (cond (match_shaped w) (match_told (match_in w)) Stray)

@@ -1,36 +1,16 @@
 // One pass over the words of a record, from the front.
-ghost use Rattle.std.specs.Prelude.{◌≡◌, true, length};
-ghost use Rattle.facts.specs.Fields.{legal};
-ghost use Rattle.figures.specs.Brackets.{rounds};
+ghost use Rattle.std.specs.Prelude.{◌≡◌, length};
 ghost use Rattle.figures.specs.Fields.{field_of};
 ghost use Rattle.records.specs.Records.{word_count};
 ghost use Rattle.records.specs.Readings.{win_of, Read};
 
-use crate::judging::{is_fair, leaf_refusal, match_refusal};
-use crate::words::{Match, match_of};
+use crate::judging::is_fair;
+use crate::parts::Parts;
+use crate::words::{Match, Word, word_of};
 use algebra::algebra::Algebra;
 use facts::refusals::Refusal;
+use figures::sets::holds;
 use sources::source::MatchSource;
-
-// What the pass finds: whether every match agrees with what is beneath it, and the product of what
-// the wins are worth.
-#[derive(Clone, Copy)]
-pub(crate) struct Reading<V> {
-    pub(crate) fair: bool,
-    pub(crate) weight: V,
-}
-
-fn rounds_of(size: usize) -> usize
-    requires { legal size ≡ true }
-    ensures { result ≡ rounds size }
-{
-    match size {
-        2 => 1,
-        4 => 2,
-        8 => 3,
-        _ => 4,
-    }
-}
 
 // What the win is worth on the sheet.
 fn match_weight<V: Algebra, S: MatchSource>(source: &S, told: Match) -> V
@@ -40,45 +20,42 @@ fn match_weight<V: Algebra, S: MatchSource>(source: &S, told: Match) -> V
     V::weight(fact)
 }
 
-// The stack has the rounds of the parts still to come, the next one on top: a leaf takes its part
-// off, a match puts its two halves in place of its part. Sixteen entrants never have more than five
-// parts to come.
+// The product of what the wins are worth, or the first refusal. All words are judged at their places
+// before any match is, so a match that does not agree with what is beneath it only gives up the
+// product, and the pass goes on. A leaf takes its part off the stack, a match puts its two halves
+// there instead. A loop over a first word and the rest, with a small plain stack: a rule of this project.
 pub(crate) fn read_words<V: Algebra, S: MatchSource>(
     words: &[u32],
     source: &S,
-) -> Result<Reading<V>, Refusal>
+) -> Result<V, Refusal>
     requires { length words.now ≡ word_count (S.MatchSource.sheet source.now).size }
     ensures { Read V.Algebra.means V.Algebra.semiring (field_of (S.MatchSource.sheet source.now)) words.now result }
 {
     let size = source.size();
-    let mut stack = [0; 5];
-    stack[0] = rounds_of(size);
-    let mut depth = 1;
-    let mut seen = 0;
-    let mut fair = true;
-    let mut weight = V::one();
+    // a legal size is a power of two, and so has as many rounds as zeros at its low end
+    let mut parts = Parts::one(size.trailing_zeros() as usize);
+    let mut seen: u32 = 0;
+    let mut weight = Some(V::one());
     let mut rest = words;
     while let [first, more @ ..] = rest {
-        let word = *first;
-        let rounds = stack[depth - 1];
-        if rounds == 0 {
-            if let Some(refusal) = leaf_refusal(word, size, seen) {
-                return Err(refusal);
+        let rounds = parts.pop();
+        match word_of(*first) {
+            Word::Leaf { entrant } if rounds == 0 => {
+                if entrant >= size || holds(seen, entrant) {
+                    return Err(Refusal::LeafImpossible);
+                }
+                seen |= 1 << entrant;
             }
-            seen |= 1 << word;
-            depth -= 1;
-        } else {
-            if let Some(refusal) = match_refusal(word) {
-                return Err(refusal);
+            Word::Match(told) if rounds > 0 => {
+                let fair = is_fair(told, rounds, more);
+                let worth = match_weight(source, told);
+                weight = weight.filter(|_| fair).map(|product| product.times(worth));
+                parts.push(rounds - 1);
+                parts.push(rounds - 1);
             }
-            let told = match_of(word);
-            fair &= is_fair(told, rounds, more);
-            weight = weight.times(match_weight(source, told));
-            stack[depth - 1] = rounds - 1;
-            stack[depth] = rounds - 1;
-            depth += 1;
+            _ => return Err(Refusal::RecordWordMisplaced),
         }
         rest = more;
     }
-    Ok(Reading { fair, weight })
+    weight.ok_or(Refusal::MatchImpossible)
 }

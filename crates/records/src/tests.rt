@@ -31,16 +31,9 @@ fn bribe_sheet() -> Result<BribeFile, Fail> {
 }
 
 fn refuses(rt: &impl Abort, words: &[u32], why: Refusal) -> Result<(), Fail> {
-    match verify::<Possibility, BribeFile>(words, &bribe_sheet()?) {
-        Ok(_) => {
-            assert!(rt; false);
-            Ok(())
-        },
-        Err(refusal) => {
-            assert_eq!(rt; refusal, why);
-            Ok(())
-        },
-    }
+    let verdict = verify::<Possibility, BribeFile>(words, &bribe_sheet()?);
+    assert_eq!(rt; verdict, Err(why));
+    Ok(())
 }
 
 // The record with another word at one place.

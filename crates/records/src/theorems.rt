@@ -4,22 +4,16 @@ ghost use Rattle.records.specs.Theorems.{RefusedExactly, ToldApart};
 ghost use Rattle.records.specs.Examples.{WordsOfFour};
 
 // Words meet no refusal exactly where some filled bracket on the field has them as its record.
-pub fn refused_exactly_where_no_bracket_is_recorded() -> u8
+pub fn refused_exactly_where_no_bracket_is_recorded()
     ensures refused_exactly { RefusedExactly }
-{
-    0
-}
+{}
 
 // A record tells its filled bracket from every other on the field.
-pub fn records_tell_brackets_apart() -> u8
+pub fn records_tell_brackets_apart()
     ensures told_apart { ToldApart }
-{
-    0
-}
+{}
 
 // The words of a bracket of four entrants, computed.
-pub fn a_small_record_computes() -> u8
+pub fn a_small_record_computes()
     ensures words_of_four { WordsOfFour }
-{
-    0
-}
+{}

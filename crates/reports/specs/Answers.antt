@@ -6,6 +6,10 @@ use Rattle.texts.specs.Numbers.{decimal}
 abbrev pub draws_text : ℕ → List ℕ
 draws_text number = cond (number == 999999999) (codes "999999999+") (decimal number)
 
+-- the same with the words and the number laid out in a column
+abbrev pub draws_cell : (List ℕ → List ℕ) → (ℕ → List ℕ) → ℕ → List ℕ
+draws_cell words amount number = cond (number == 999999999) (words (codes "999999999+")) (amount number)
+
 -- how many draws there are, over all entrants
 abbrev pub tally_line : ℕ → List ℕ
 tally_line number = codes "tally of draws: " ++ draws_text number

@@ -2,6 +2,7 @@
 ghost use Rattle.std.specs.Prelude.{◌≡◌, IfOk, string_bytes};
 ghost use Rattle.reports.specs.Winners.{winners_line};
 
+use figures::sets::Members;
 use std::alloc::{AllocError, Global};
 
 // The members of the set among n entrants. The set has 32 bits, so that nobody from 32 on is in it.
@@ -9,11 +10,8 @@ pub fn winners_line(heap: Global, winners: u32, n: usize) -> Result<String, Allo
     ensures lists_the_members_rising { IfOk result (λ s. string_bytes s ≡ winners_line winners n) }
 {
     let mut line = String::from_str(heap, "winners:")?;
-    for entrant in 0..n.min(32) {
-        if (winners >> entrant) % 2 == 1 {
-            let next = format!(in heap; " {entrant}")?;
-            line.push_str(&next)?;
-        }
+    for entrant in Members::of(winners).take_while(|entrant| *entrant < n) {
+        write!(line, " {entrant}")?;
     }
     Ok(line)
 }

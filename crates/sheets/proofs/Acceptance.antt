@@ -1,13 +1,13 @@
 -- Bytes are accepted exactly when they are the words of a sound content. Assumes nothing.
 use Rattle.std.proofs.Common.{◌≡◌, ℕ, zero, suc, ◌+◌, ◌*◌, ◌/◌, ◌%◌, ◌<◌, ◌≤◌, Bool, true, false, cond, not, ◌&&◌, ◌||◌, eqb, ltb, List, [], ◌∷◌, map, length, get_or, Some, None, Ok, Err, Option, Result, sym, refl, ap, ◌∙◌, subst, arith}
-use Rattle.std.specs.List.{range_with_len}
+use Rattle.std.specs.List.{range_with_len, filter_map, cons_option}
 use Rattle.std.proofs.lemmas.Bool.{and_parts, or_parts, or_from, ltb-true, ltb-false, eqb-true, ne_eqb, eq-eqb, not-false, not_from_true, both_ways, cond-true, cond-false}
 use Rattle.facts.specs.declared.refusals.Refusal.{Refusal}
 use Rattle.facts.specs.declared.refusals.Refusal.TheVariants.{LengthNotWords, SizeNotAllowed, SourceUnknown}
 use Rattle.facts.specs.Facts.{free, over_top}
 use Rattle.facts.specs.Fields.{legal, opponents}
 use Rattle.facts.specs.Sheets.{Sheet, SameSheet}
-use Rattle.sources.specs.Kinds.{kind_number}
+use Rattle.sources.specs.Kinds.{kind_number, kind_of}
 use Rattle.sources.specs.Orders.{ranked, plain}
 use Rattle.sources.specs.Held.{turned, uniform_sheet}
 use Rattle.sources.specs.declared.kind.SourceKind.{SourceKind}
@@ -23,14 +23,14 @@ use Rattle.sheets.specs.Words.{Fitting, bits_of, word_of}
 use Rattle.sheets.specs.Bytes.{bytes_of, words_of}
 use Rattle.sheets.specs.Places.{has_row}
 use Rattle.sheets.specs.Holdings.{plain_sheet, sheet_at}
-use Rattle.sheets.specs.Contents.{Content, Sound, carries_of, sheet_of, row_for, row_at, joined, gathered, rows_of, words_of_content, Says}
+use Rattle.sheets.specs.Contents.{Content, Sound, carries_of, sheet_of, row_for, row_at, rows_of, words_of_content, Says}
 use Rattle.sheets.specs.Judging.{sourced, judged_head}
-use Rattle.sheets.specs.Scanning.{Progress, opening, advanced_by, scanned}
+use Rattle.sheets.specs.Scanning.{Progress, opening, after, advanced_by, scanned}
 use Rattle.sheets.specs.Reading.{read_of, answer_of, Left}
 use Rattle.sheets.proofs.Alike.{alike, unlike}
 use Rattle.sheets.proofs.Encoding.{Proper, word_back, bits_small, bits_back, Small, words_back, bytes_back, words_small}
 use Rattle.sheets.proofs.Written.{bytes_length}
-use Rattle.sheets.proofs.Soundness.{Good, Blank, after, read_off}
+use Rattle.sheets.proofs.Soundness.{Good, Blank, read_off}
 use Rattle.sheets.proofs.Completeness.{content, at_first, at_last, plain_weaker, read_through}
 use Rattle.sheets.proofs.Taking.{head_no_row}
 
@@ -39,11 +39,16 @@ abbrev pub Each : (Word → Type 0) → List Word → Type 0
 Each P [] = Unit {0}
 Each P (w ∷ ws) = P w × Each P ws
 
-each_gathered : (P : Word → Type 0) (f : ℕ → Option Word) → ((p : ℕ) (w : Word) → p < 256 → f p ≡ Some w → P w) → (from m : ℕ) → from + m ≤ 256 → Each P (gathered f (range_with_len from m))
+pub each_at : (P : Word → Type 0) (ws : List Word) (i : ℕ) (w : Word) → Each P ws → i < length ws → w ≡ get_or ws i w → P w
+each_at P [] i w each h is = absurd (omega arith)
+each_at P (x ∷ ws) zero w (here, rest) h is = subst P (sym is) here
+each_at P (x ∷ ws) (suc i) w (here, rest) h is = each_at P ws i w rest (omega arith) is
+
+each_gathered : (P : Word → Type 0) (f : ℕ → Option Word) → ((p : ℕ) (w : Word) → p < 256 → f p ≡ Some w → P w) → (from m : ℕ) → from + m ≤ 256 → Each P (filter_map f (range_with_len from m))
 each_gathered P f h from zero l = tt
 each_gathered P f h from (suc m) l = go (f from) refl (each_gathered P f h (from + 1) m (omega arith))
   where
-    go : (o : Option Word) → f from ≡ o → Each P (gathered f (range_with_len (from + 1) m)) → Each P (joined o (gathered f (range_with_len (from + 1) m)))
+    go : (o : Option Word) → f from ≡ o → Each P (filter_map f (range_with_len (from + 1) m)) → Each P (cons_option o (filter_map f (range_with_len (from + 1) m)))
     go None e rest = rest
     go (Some w) e rest = (h from w (omega arith) e, rest)
 
@@ -57,9 +62,8 @@ row_proper Order w l fact word h = go (free fact) h
   where
     go : (b : Bool) → cond b (Some (Upset w l)) None ≡ Some word → Proper word
     go true e = let is : Upset w l ≡ word = cc in subst Proper is tt
-    go false e = absurd (let z : ◌≡◌ {A = ℕ} 0 1 = cc in omega arith)
-row_proper Bribes w l None word h = let is : Price w l 0 true ≡ word = cc in subst Proper is tt
-row_proper Bribes w l (Some x) word h = let is : Price w l x false ≡ word = cc in subst Proper is tt
+    go false e = absurd (cc)
+row_proper Bribes w l fact word h = let is : Price w l (Some fact) ≡ word = cc in subst Proper is tt
 
 row_fitting : (k : SourceKind) (w l : ℕ) (fact : Option ℕ) (word : Word) → w < 16 → l < 16 → over_top fact ≡ false → row_for k w l fact ≡ Some word → Fitting word
 row_fitting Matrix w l fact word p q t h = go (free fact) h
@@ -71,28 +75,21 @@ row_fitting Order w l fact word p q t h = go (free fact) h
   where
     go : (b : Bool) → cond b (Some (Upset w l)) None ≡ Some word → Fitting word
     go true e = let is : Upset w l ≡ word = cc in subst Fitting is (p, q)
-    go false e = absurd (let z : ◌≡◌ {A = ℕ} 0 1 = cc in omega arith)
-row_fitting Bribes w l None word p q t h = let is : Price w l 0 true ≡ word = cc in subst Fitting is (p, q, omega arith)
-row_fitting Bribes w l (Some x) word p q t h = let is : Price w l x false ≡ word = cc in subst Fitting is (p, q, omega (arith, ltb-false 1000000 x t))
+    go false e = absurd (cc)
+row_fitting Bribes w l None word p q t h = let is : Price w l (Some None) ≡ word = cc in subst Fitting is (p, q, tt)
+row_fitting Bribes w l (Some x) word p q t h = let is : Price w l (Some (Some x)) ≡ word = cc in subst Fitting is (p, q, omega (arith, ltb-false 1000000 x t))
 
 told : (P : Word → Type 0) (k : SourceKind) (n : ℕ) (beats : ℕ → ℕ → Option ℕ) (p : ℕ) (word : Word) → (has_row k n p ≡ true → row_for k (p / 16) (p % 16) (beats (p / 16) (p % 16)) ≡ Some word → P word) → row_at k n beats p ≡ Some word → P word
 told P k n beats p word f h = go (has_row k n p) refl h
   where
     go : (b : Bool) → has_row k n p ≡ b → cond b (row_for k (p / 16) (p % 16) (beats (p / 16) (p % 16))) None ≡ Some word → P word
     go true e q = f e q
-    go false e q = absurd (let z : ◌≡◌ {A = ℕ} 0 1 = cc in omega arith)
+    go false e q = absurd (cc)
 
 stands_meet : (k : SourceKind) (n p : ℕ) → has_row k n p ≡ true → opponents n (p / 16) (p % 16) ≡ true
 stands_meet Matrix n p h = (and_parts (opponents n (p / 16) (p % 16)) (ltb (p / 16) (p % 16)) h).0
 stands_meet Order n p h = (and_parts (opponents n (p / 16) (p % 16)) (ltb (p % 16) (p / 16)) h).0
 stands_meet Bribes n p h = h
-
--- a row of a lawful sheet fits its word
-pub row_fits : (k : SourceKind) (s : Sheet) (p : ℕ) (word : Word) → legal s.size ≡ true → ((a b : ℕ) → over_top (s.beats a b) ≡ false) → row_at k s.size s.beats p ≡ Some word → Fitting word
-row_fits k s p word leg top h =
-    told Fitting k s.size s.beats p word
-    (λ stands e. let m = met s.size (p / 16) (p % 16) (stands_meet k s.size p stands) in let small = legal_small s.size leg in
-    row_fitting k (p / 16) (p % 16) (s.beats (p / 16) (p % 16)) word (omega (arith, m.0)) (omega (arith, m.1)) (top (p / 16) (p % 16)) e) h
 
 pub kind_small : (k : SourceKind) → kind_number k < 4
 kind_small Matrix = omega arith
@@ -204,33 +201,37 @@ plain_size Matrix n = refl
 plain_size Order n = refl
 plain_size Bribes n = refl
 
+-- a kind has its own number
+kind_named : (source : ℕ) (k : SourceKind) → kind_of source ≡ Ok k → source ≡ kind_number k
+kind_named source k h = go (eqb source 0) (eqb source 1) (eqb source 2) refl refl refl h
+  where
+    go : (x y z : Bool) → eqb source 0 ≡ x → eqb source 1 ≡ y → eqb source 2 ≡ z → ◌≡◌ {A = Result SourceKind Refusal} (cond x (Ok Matrix) (cond y (Ok Order) (cond z (Ok Bribes) (Err SourceUnknown)))) (Ok k) → source ≡ kind_number k
+    go true y z a b c q = let is : Matrix ≡ k = cc in eqb-true source 0 a ∙ ap kind_number is
+    go false true z a b c q = let is : Order ≡ k = cc in eqb-true source 1 b ∙ ap kind_number is
+    go false false true a b c q = let is : Bribes ≡ k = cc in eqb-true source 2 c ∙ ap kind_number is
+    go false false false a b c q = absurd (cc)
+
 -- a head that passes is the head of a content
 pub head_of : (word : Word) (n : ℕ) (k : SourceKind) → judged_head word ≡ Ok (field n k) → (word ≡ Head n (kind_number k)) × (legal n ≡ true)
-head_of (Price w l price never) n k h = absurd (let z : ◌≡◌ {A = ℕ} 0 1 = cc in omega arith)
-head_of (Upset w l) n k h = absurd (let z : ◌≡◌ {A = ℕ} 0 1 = cc in omega arith)
-head_of (Outcome w l) n k h = absurd (let z : ◌≡◌ {A = ℕ} 0 1 = cc in omega arith)
-head_of Stray n k h = absurd (let z : ◌≡◌ {A = ℕ} 0 1 = cc in omega arith)
-head_of (Head size source) n k h = go (legal size) (eqb source 0) (eqb source 1) (eqb source 2) refl refl refl refl h
+head_of (Price w l fact) n k h = absurd (cc)
+head_of (Upset w l) n k h = absurd (cc)
+head_of (Outcome w l) n k h = absurd (cc)
+head_of Stray n k h = absurd (cc)
+head_of (Head size source) n k h = go (legal size) (kind_of source) refl refl h
   where
-    named : (j : SourceKind) → source ≡ kind_number j → legal size ≡ true → ◌≡◌ {A = Result Said Refusal} (Ok (field size j)) (Ok (field n k)) → (Head size source ≡ Head n (kind_number k)) × (legal n ≡ true)
-    named j e leg q =
+    go : (g : Bool) (j : Result SourceKind Refusal) → legal size ≡ g → kind_of source ≡ j → ◌≡◌ {A = Result Said Refusal} (cond (not g) (Err SizeNotAllowed) (sourced size j)) (Ok (field n k))
+        → (Head size source ≡ Head n (kind_number k)) × (legal n ≡ true)
+    go false j a b q = absurd (cc)
+    go true (Err e) a b q = absurd (cc)
+    go true (Ok j) a b q =
         let x : size ≡ n = cc in
         let y : j ≡ k = cc in
-        (ap (λ i. Head i source) x ∙ ap (λ i. Head n i) (e ∙ ap kind_number y), ap legal (sym x) ∙ leg)
-
-    go : (g x y z : Bool) → legal size ≡ g → eqb source 0 ≡ x → eqb source 1 ≡ y → eqb source 2 ≡ z
-        → ◌≡◌ {A = Result Said Refusal} (cond (not g) (Err SizeNotAllowed) (cond x (Ok (field size Matrix)) (cond y (Ok (field size Order)) (cond z (Ok (field size Bribes)) (Err SourceUnknown))))) (Ok (field n k))
-        → (Head size source ≡ Head n (kind_number k)) × (legal n ≡ true)
-    go false x y z a b c d q = absurd (let z : ◌≡◌ {A = ℕ} 0 1 = cc in omega arith)
-    go true true y z a b c d q = named Matrix (eqb-true source 0 b) a q
-    go true false true z a b c d q = named Order (eqb-true source 1 c) a q
-    go true false false true a b c d q = named Bribes (eqb-true source 2 d) a q
-    go true false false false a b c d q = absurd (let z : ◌≡◌ {A = ℕ} 0 1 = cc in omega arith)
+        (ap (λ i. Head i source) x ∙ ap (λ i. Head n i) (kind_named source j b ∙ ap kind_number y), ap legal (sym x) ∙ a)
 
 head_passes : (n : ℕ) (k : SourceKind) → legal n ≡ true → judged_head (Head n (kind_number k)) ≡ Ok (field n k)
 head_passes n k leg = cond-false (not (legal n)) _ _ (not_from_true (legal n) leg) ∙ go k
   where
-    go : (k : SourceKind) → sourced n (kind_number k) ≡ Ok (field n k)
+    go : (k : SourceKind) → sourced n (kind_of (kind_number k)) ≡ Ok (field n k)
     go Matrix = refl
     go Order = refl
     go Bribes = refl
@@ -239,13 +240,13 @@ head_passes n k leg = cond-false (not (legal n)) _ _ (not_from_true (legal n) le
 pub sound_words : (ws : List Word) (p : Progress) → scanned opening ws 0 ≡ Ok p
     → (c : Content) × Sound c × (c.kind ≡ p.kind) × (ws ≡ words_of_content c) × SameSheet (sheet_of c) p.sheet
 unfolding rows_of
-sound_words [] p h = absurd (let z : ◌≡◌ {A = ℕ} 0 1 = cc in omega arith)
+sound_words [] p h = absurd (cc)
 sound_words (w ∷ ws) p h = go (judged_head w) refl h
   where
     go : (j : Result Said Refusal) → judged_head w ≡ j
         → (elim (advanced_by opening j) as (λ _. Result Progress Misread) [ Ok q ↦ scanned q ws 1 | Err e ↦ Err (record { refusal = e; word = 0 }) ]) ≡ Ok p
         → (c : Content) × Sound c × (c.kind ≡ p.kind) × (w ∷ ws ≡ words_of_content c) × SameSheet (sheet_of c) p.sheet
-    go (Err e) is q = absurd (let z : ◌≡◌ {A = ℕ} 0 1 = cc in omega arith)
+    go (Err e) is q = absurd (cc)
     go (Ok (row a b facts)) is q = head_no_row w a b facts is
     go (Ok (field n k)) is q =
         let t = head_of w n k is in
@@ -258,7 +259,7 @@ sound_words (w ∷ ws) p h = go (judged_head w) refl h
             capped = λ a b o. r.good.capped a b;
           },
           sym r.kind,
-          ap (λ x. x ∷ ws) t.0 ∙ ap (λ xs. Head n (kind_number k) ∷ xs) (r.words ∙ ap (λ i. gathered (row_at k i p.sheet.beats) (range_with_len 0 256)) (plain_size k n)),
+          ap (λ x. x ∷ ws) t.0 ∙ ap (λ xs. Head n (kind_number k) ∷ xs) (r.words ∙ ap (λ i. filter_map (row_at k i p.sheet.beats) (range_with_len 0 256)) (plain_size k n)),
           record {
             size = sym size;
             beats = λ a b. inside a b (opponents n a b) refl (λ h. r.good.outside a b (ap (λ i. opponents i a b) size ∙ h));
@@ -276,11 +277,11 @@ unfolding rows_of
 complete_words c sound =
     let k = c.kind in
     let n = c.size in
-    let rows = gathered (row_at c.kind c.size c.beats) (range_with_len 0 256) in
+    let rows = filter_map (row_at c.kind c.size c.beats) (range_with_len 0 256) in
     let t = read_through c.kind c.size c.beats sound 256 0 0 1 refl (omega arith) (λ q a b. absurd (omega arith)) in
-    let P : Result Said Refusal → Type 0 = λ j. (elim (advanced_by opening j) as (λ _. Result Progress Misread) [ Ok q ↦ scanned q (gathered (row_at c.kind c.size c.beats) (range_with_len 0 256)) 1 | Err e ↦ Err (record { refusal = e; word = 0 }) ]) ≡ Ok t.0 in (
+    let P : Result Said Refusal → Type 0 = λ j. (elim (advanced_by opening j) as (λ _. Result Progress Misread) [ Ok q ↦ scanned q (filter_map (row_at c.kind c.size c.beats) (range_with_len 0 256)) 1 | Err e ↦ Err (record { refusal = e; word = 0 }) ]) ≡ Ok t.0 in (
       t.0,
-      subst P (sym (head_passes c.size c.kind sound.size_legal)) (ap (λ s. scanned (after c.kind s 0) (gathered (row_at c.kind c.size c.beats) (range_with_len 0 256)) 1) (sym (at_first c)) ∙ t.1),
+      subst P (sym (head_passes c.size c.kind sound.size_legal)) (ap (λ s. scanned (after c.kind s 0) (filter_map (row_at c.kind c.size c.beats) (range_with_len 0 256)) 1) (sym (at_first c)) ∙ t.1),
       t.2,
       t.3 ∙ at_last c sound.size_legal,
     )
@@ -290,12 +291,12 @@ accepted bytes small p h = go (eqb (length bytes) 0 || not (eqb (length bytes % 
   where
     go : (b : Bool) → (eqb (length bytes) 0 || not (eqb (length bytes % 4) 0)) ≡ b
         → ◌≡◌ {A = Result Progress Misread} (cond b (Err (record { refusal = LengthNotWords; word = 0 })) (scanned opening (map word_of (words_of bytes)) 0)) (Ok p) → Says bytes p.kind p.sheet
-    go true e q = absurd (let z : ◌≡◌ {A = ℕ} 0 1 = cc in omega arith)
+    go true e q = absurd (cc)
     go false e q =
         let t = sound_words (map word_of (words_of bytes)) p q in
         let whole = eqb-true (length bytes % 4) 0 (not-false (eqb (length bytes % 4) 0) (or_parts (eqb (length bytes) 0) (not (eqb (length bytes % 4) 0)) e).1) in
         let proper = subst (Each Proper) (sym t.3) (content_proper t.0) in
-        let bits = bits_words (words_of bytes) (words_small bytes small 0 (length bytes / 4)) proper in
+        let bits = bits_words (words_of bytes) (words_small bytes small) proper in
         (t.0, t.1, t.2, sym (bytes_back bytes small whole) ∙ ap bytes_of (sym bits ∙ ap (map bits_of) t.3), t.4)
 
 pub said : (bytes : List ℕ) (k : SourceKind) (s : Sheet) → Says bytes k s → (p : Progress) × (read_of bytes ≡ Ok p) × (p.kind ≡ k) × (p.sheet ≡ s)
@@ -328,7 +329,7 @@ exactly bytes small r before after e h = (forth, λ k is. back (read_of bytes) r
         )
 
     back : (o : Result Progress Misread) → read_of bytes ≡ o → r ≡ answer_of o → Left o before after → (k : SourceKind) → r ≡ Ok k → Says bytes k (sheet_at k after)
-    back (Err m) is a l k q = absurd (let z : ◌≡◌ {A = ℕ} 0 1 = cc in omega arith)
+    back (Err m) is a l k q = absurd (cc)
     back (Ok p) is a l k q =
         let kind : p.kind ≡ k = cc in
         let P : SourceKind → Type 0 = λ j. Says bytes j (sheet_at j after) in

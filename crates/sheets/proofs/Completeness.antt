@@ -1,6 +1,6 @@
 -- The words of a sound content are accepted. Assumes nothing.
 use Rattle.std.proofs.Common.{◌≡◌, ℕ, zero, suc, ◌+◌, ◌-◌, ◌*◌, ◌/◌, ◌%◌, ◌<◌, ◌≤◌, min, max, Bool, true, false, cond, not, ◌&&◌, ◌||◌, eqb, ltb, ◌⊎◌, Some, None, Ok, Err, Option, Result, sym, refl, ap, ◌∙◌, subst, inl, inr, arith}
-use Rattle.std.specs.List.{range_with_len}
+use Rattle.std.specs.List.{range_with_len, filter_map, cons_option}
 use Rattle.std.proofs.lemmas.Bool.{and_parts, and_from, and_left, or_right, or_from, ltb-true, lt-ltb, le-ltb, eqb-true, eq-eqb, ne_eqb, not_from_true, both_ways, cond-true, cond-false, cases_eq, cases_lt}
 use Rattle.std.proofs.lemmas.Bool.Decides.{nat_tests}
 use Rattle.facts.specs.declared.refusals.Refusal.{Refusal}
@@ -16,18 +16,17 @@ use Rattle.sources.specs.declared.kind.SourceKind.TheVariants.{Matrix, Order, Br
 use Rattle.sources.specs.Holding.{legal_small, met, met_back}
 use Rattle.sheets.specs.declared.misread.Misread.{Misread}
 use Rattle.sheets.specs.declared.words.Word.{Word}
-use Rattle.sheets.specs.declared.words.Word.TheVariants.{Upset, Outcome}
+use Rattle.sheets.specs.declared.words.Word.TheVariants.{Price, Upset, Outcome}
 use Rattle.sheets.specs.declared.rows.Said.{Said}
 use Rattle.sheets.specs.declared.rows.Said.TheVariants.{Row as row}
 use Rattle.sheets.specs.Places.{has_row}
 use Rattle.sheets.specs.Holdings.{plain_sheet}
-use Rattle.sheets.specs.Contents.{Content, Sound, carries_of, sheet_of, price_word, row_for, row_at, joined, gathered}
+use Rattle.sheets.specs.Contents.{Content, Sound, carries_of, sheet_of, row_for, row_at}
 use Rattle.sheets.specs.Judging.{judged, judged_outcome, judged_upset, judged_price}
-use Rattle.sheets.specs.Scanning.{Progress, outcome_at, price_at, awaited_from, advanced_by, complete, scanned}
+use Rattle.sheets.specs.Scanning.{Progress, outcome_at, price_at, awaited_from, after, advanced_by, complete, scanned}
 use Rattle.sheets.proofs.Alike.{alike}
 use Rattle.sheets.proofs.Stepping.{next_at, next_none}
 use Rattle.sheets.proofs.Taking.{due}
-use Rattle.sheets.proofs.Soundness.{after}
 
 -- the place of the row that tells what it takes for the first of two to win
 abbrev pub told_at : SourceKind → ℕ → ℕ → ℕ
@@ -102,7 +101,7 @@ plain_stronger : (n a b : ℕ) → opponents n a b ≡ true → a < b → (plain
 plain_stronger n a b o h = cond-true (opponents n a b) _ None o ∙ ap (λ t. (cond {A = Option ℕ × Option ℕ} t (Some 0, None) (None, Some 0)).0) (lt-ltb a b h)
 
 free_is : (f : Option ℕ) → free f ≡ true → f ≡ Some 0
-free_is None h = absurd (both_ways false refl h)
+free_is None h = absurd (cc)
 free_is (Some x) h = ap {B = Option ℕ} (λ (i : ℕ). Some i) (eqb-true x 0 h)
 
 unfree_plain : (f : Option ℕ) → plain f ≡ true → free f ≡ false → f ≡ None
@@ -117,7 +116,7 @@ ranked_stronger a b f g h k =
   where
     go : (t : Bool) → t ≡ true → (free (cond {A = Option ℕ × Option ℕ} t (f, g) (g, f)).0 && plain (cond {A = Option ℕ × Option ℕ} t (f, g) (g, f)).1) ≡ true → (f ≡ Some 0) × (plain g ≡ true)
     go true e u = let p = and_parts (free f) (plain g) u in (free_is f p.0, p.1)
-    go false e u = absurd (both_ways false refl e)
+    go false e u = absurd (cc)
 
 ranked_weaker : (a b : ℕ) (f g : Option ℕ) → b < a → ranked a b f g ≡ true → (g ≡ Some 0) × (plain f ≡ true)
 ranked_weaker a b f g h k =
@@ -125,7 +124,7 @@ ranked_weaker a b f g h k =
     go (ltb a b) (le-ltb a b (omega arith)) t.1
   where
     go : (t : Bool) → t ≡ false → (free (cond {A = Option ℕ × Option ℕ} t (f, g) (g, f)).0 && plain (cond {A = Option ℕ × Option ℕ} t (f, g) (g, f)).1) ≡ true → (g ≡ Some 0) × (plain f ≡ true)
-    go true e u = absurd (both_ways true e refl)
+    go true e u = absurd (cc)
     go false e u = let p = and_parts (free g) (plain f) u in (free_is g p.0, p.1)
 
 abbrev pub content : SourceKind → ℕ → (ℕ → ℕ → Option ℕ) → Content
@@ -179,16 +178,13 @@ module _ (c : Content) (p : ℕ) where
           back ∙ ap (λ i. (partly c (p + 1)).beats i w) (sym (eqb-true a l q.0)) ∙ ap (λ i. (partly c (p + 1)).beats a i) (sym (eqb-true b w q.1))
       go a b false false e f = other a b e f (opponents c.size a b) refl (cases_eq (told_at c.kind a b) p)
 
-no_some : {X P : Type 0} (x : X) → Some x ≡ None → P
-no_some x h = absurd (let z : ◌≡◌ {A = ℕ} 0 1 = cc in omega arith)
-
 -- a place with no row changes nothing, and none is due there
 pub passed_over : (k : SourceKind) (n : ℕ) (beats : ℕ → ℕ → Option ℕ) → Sound (content k n beats) → (p : ℕ) → row_at k n beats p ≡ None
     → (partly (content k n beats) p ≡ partly (content k n beats) (p + 1)) × (due k n p ≡ false)
 passed_over Bribes n beats sound p h = go (has_row Bribes n p) refl h
   where
     go : (b : Bool) → has_row Bribes n p ≡ b → cond b (row_for Bribes (p / 16) (p % 16) (beats (p / 16) (p % 16))) None ≡ None → (partly (content Bribes n beats) p ≡ partly (content Bribes n beats) (p + 1)) × (has_row Bribes n p ≡ false)
-    go true e q = no_some _ q
+    go true e q = absurd (cc)
     go false e q = (
       quiet (content Bribes n beats) p (λ a b o is. absurd (let t = told_row n a b p sound.size_legal o is in
           both_ways (opponents n (p / 16) (p % 16)) e (ap (λ i. opponents n i (p % 16)) t.0 ∙ ap (opponents n a) t.1 ∙ o))),
@@ -206,7 +202,7 @@ passed_over Matrix n beats sound p h = go (has_row Matrix n p) refl h
     either a b o is (inr l) = let m = met n a b o in stands b a (sym (met_back n a b) ∙ o) (omega (arith, m.2)) (omega arith)
 
     go : (b : Bool) → has_row Matrix n p ≡ b → cond b (row_for Matrix (p / 16) (p % 16) (beats (p / 16) (p % 16))) None ≡ None → (partly (content Matrix n beats) p ≡ partly (content Matrix n beats) (p + 1)) × (has_row Matrix n p ≡ false)
-    go true e q = no_some _ q
+    go true e q = absurd (cc)
     go false e q = (quiet (content Matrix n beats) p (λ a b o is. absurd (both_ways (has_row Matrix n p) e (either a b o is (cases_lt a b)))), e)
 passed_over Order n beats sound p h = (quiet (content Order n beats) p (λ a b o is. go a b o is (cases_lt a b)), refl)
   where
@@ -214,9 +210,9 @@ passed_over Order n beats sound p h = (quiet (content Order n beats) p (λ a b o
     unmarked true fact e q = no_mark (free fact) q
       where
         no_mark : (f : Bool) → cond f (Some (Upset (p / 16) (p % 16))) None ≡ None → f ≡ false
-        no_mark true r = no_some _ r
+        no_mark true r = absurd (cc)
         no_mark false r = refl
-    unmarked false fact e q = absurd (both_ways false refl e)
+    unmarked false fact e q = absurd (cc)
 
     go : (a b : ℕ) → opponents n a b ≡ true → a * 16 + b ≡ p → (a < b) ⊎ (b ≤ a) → beats a b ≡ (plain_sheet Order n).beats a b
     go a b o is (inl l) = (ranked_stronger a b (beats a b) (beats b a) l (sound.carried a b o)).0 ∙ sym (plain_stronger n a b o l)
@@ -235,16 +231,16 @@ pub record Taken-in (k : SourceKind) (n : ℕ) (beats : ℕ → ℕ → Option �
   pub puts : amended (partly (content k n beats) p) (p / 16) (p % 16) facts ≡ partly (content k n beats) (p + 1)
 
 certain_free : (f g : Option ℕ) → certain f g ≡ true → free f ≡ true → ◌≡◌ {A = Option ℕ × Option ℕ} (Some 0, None) (f, g)
-certain_free None None h k = absurd (both_ways false refl h)
-certain_free None (Some y) h k = absurd (both_ways false refl k)
+certain_free None None h k = absurd (cc)
+certain_free None (Some y) h k = absurd (cc)
 certain_free (Some x) None h k = ap (λ i. (i, None)) (sym (free_is (Some x) k))
-certain_free (Some x) (Some y) h k = absurd (both_ways false refl h)
+certain_free (Some x) (Some y) h k = absurd (cc)
 
 certain_unfree : (f g : Option ℕ) → certain f g ≡ true → free f ≡ false → ◌≡◌ {A = Option ℕ × Option ℕ} (None, Some 0) (f, g)
-certain_unfree None None h k = absurd (both_ways false refl h)
+certain_unfree None None h k = absurd (cc)
 certain_unfree None (Some y) h k = ap (λ i. (None, i)) (sym (free_is (Some y) h))
 certain_unfree (Some x) None h k = absurd (both_ways (eqb x 0) k h)
-certain_unfree (Some x) (Some y) h k = absurd (both_ways false refl h)
+certain_unfree (Some x) (Some y) h k = absurd (cc)
 
 module _ (n : ℕ) (beats : ℕ → ℕ → Option ℕ) (from p : ℕ) (word : Word) (behind : from ≤ p) (inside : p < 256) where
   matrix_in : Sound (content Matrix n beats) → ((q : ℕ) → from ≤ q → q < p → has_row Matrix n q ≡ false) → has_row Matrix n p ≡ true
@@ -326,7 +322,7 @@ module _ (n : ℕ) (beats : ℕ → ℕ → Option ℕ) (from p : ℕ) (word : W
       stronger_free false = plain_stronger n (p % 16) (p / 16) back weaker
 
       go : (b : Bool) → free (beats (p / 16) (p % 16)) ≡ b → cond b (Some (Upset (p / 16) (p % 16))) None ≡ Some word → Taken-in Order n beats from p word
-      go false e q = no_some word (sym q)
+      go false e q = absurd (cc)
       go true e q =
           let w : Upset (p / 16) (p % 16) ≡ word = cc in
           record {
@@ -341,7 +337,7 @@ module _ (n : ℕ) (beats : ℕ → ℕ → Option ℕ) (from p : ℕ) (word : W
           }
 
   bribe_in : Sound (content Bribes n beats) → ((q : ℕ) → from ≤ q → q < p → has_row Bribes n q ≡ false) → has_row Bribes n p ≡ true
-      → Some (price_word (p / 16) (p % 16) (beats (p / 16) (p % 16))) ≡ Some word → Taken-in Bribes n beats from p word
+      → Some (Price (p / 16) (p % 16) (Some (beats (p / 16) (p % 16)))) ≡ Some word → Taken-in Bribes n beats from p word
   bribe_in sound none stands is =
       record {
         facts = (beats (p / 16) (p % 16), (partly (content Bribes n beats) p).beats (p % 16) (p / 16));
@@ -358,7 +354,7 @@ module _ (n : ℕ) (beats : ℕ → ℕ → Option ℕ) (from p : ℕ) (word : W
       other : Option ℕ
       other = (partly (content Bribes n beats) p).beats (p % 16) (p / 16)
 
-      w : price_word (p / 16) (p % 16) (beats (p / 16) (p % 16)) ≡ word
+      w : Price (p / 16) (p % 16) (Some (beats (p / 16) (p % 16))) ≡ word
       w = cc
 
       waits : awaited_from Bribes (partly (content Bribes n beats) p) from ≡ price_at (partly (content Bribes n beats) p) (Some p)
@@ -386,16 +382,12 @@ module _ (n : ℕ) (beats : ℕ → ℕ → Option ℕ) (from p : ℕ) (word : W
       entrants = and_from (eqb (p / 16) (p / 16)) (eqb (p % 16) (p % 16)) (eq-eqb (p / 16) (p / 16) refl) (eq-eqb (p % 16) (p % 16) refl)
 
       price : (f : Option ℕ) → over_top f ≡ false → (free f || free ((partly (content Bribes n beats) p).beats (p % 16) (p / 16))) ≡ true
-          → judged_price n (p / 16) (p % 16) ((partly (content Bribes n beats) p).beats (p % 16) (p / 16)) (price_word (p / 16) (p % 16) f) ≡ Ok (row (p / 16) (p % 16) (f, (partly (content Bribes n beats) p).beats (p % 16) (p / 16)))
-      price None h u =
+          → judged_price n (p / 16) (p % 16) ((partly (content Bribes n beats) p).beats (p % 16) (p / 16)) (Price (p / 16) (p % 16) (Some f)) ≡ Ok (row (p / 16) (p % 16) (f, (partly (content Bribes n beats) p).beats (p % 16) (p / 16)))
+      price f h u =
           cond-false (not (opponents n (p / 16) (p % 16))) _ _ (not_from_true (opponents n (p / 16) (p % 16)) stands)
           ∙ cond-false (not (eqb (p / 16) (p / 16) && eqb (p % 16) (p % 16))) _ _ (not_from_true (eqb (p / 16) (p / 16) && eqb (p % 16) (p % 16)) entrants)
-          ∙ cond-false (not (false || free ((partly (content Bribes n beats) p).beats (p % 16) (p / 16)))) _ _ (not_from_true (free ((partly (content Bribes n beats) p).beats (p % 16) (p / 16))) u)
-      price (Some x) h u =
-          cond-false (not (opponents n (p / 16) (p % 16))) _ _ (not_from_true (opponents n (p / 16) (p % 16)) stands)
-          ∙ cond-false (not (eqb (p / 16) (p / 16) && eqb (p % 16) (p % 16))) _ _ (not_from_true (eqb (p / 16) (p / 16) && eqb (p % 16) (p % 16)) entrants)
-          ∙ cond-false (ltb 1000000 x || false) _ _ (or_from (ltb 1000000 x) false h refl)
-          ∙ cond-false (not (eqb x 0 || free ((partly (content Bribes n beats) p).beats (p % 16) (p / 16)))) _ _ (not_from_true (eqb x 0 || free ((partly (content Bribes n beats) p).beats (p % 16) (p / 16))) u)
+          ∙ cond-false (over_top f) _ _ h
+          ∙ cond-false (not (free f || free ((partly (content Bribes n beats) p).beats (p % 16) (p / 16)))) _ _ (not_from_true (free f || free ((partly (content Bribes n beats) p).beats (p % 16) (p / 16))) u)
 
 -- a row that is told stands where rows can
 told_stands : (k : SourceKind) (n p : ℕ) (beats : ℕ → ℕ → Option ℕ) (word : Word) → row_at k n beats p ≡ Some word → (has_row k n p ≡ true) × (row_for k (p / 16) (p % 16) (beats (p / 16) (p % 16)) ≡ Some word)
@@ -403,7 +395,7 @@ told_stands k n p beats word h = go (has_row k n p) refl h
   where
     go : (b : Bool) → has_row k n p ≡ b → cond b (row_for k (p / 16) (p % 16) (beats (p / 16) (p % 16))) None ≡ Some word → (has_row k n p ≡ true) × (row_for k (p / 16) (p % 16) (beats (p / 16) (p % 16)) ≡ Some word)
     go true e q = (e, q)
-    go false e q = no_some word (sym q)
+    go false e q = absurd (cc)
 
 taken_in : (k : SourceKind) (n : ℕ) (beats : ℕ → ℕ → Option ℕ) → Sound (content k n beats) → (from p : ℕ) (word : Word) → from ≤ p → p < 256 → ((q : ℕ) → from ≤ q → q < p → due k n q ≡ false)
     → row_at k n beats p ≡ Some word → Taken-in k n beats from p word
@@ -422,7 +414,7 @@ abbrev pub Ends : SourceKind → ℕ → (ℕ → ℕ → Option ℕ) → Result
 Ends k n beats o = (q : Progress) × (o ≡ Ok q) × (q.kind ≡ k) × (q.sheet ≡ partly (content k n beats) 256)
 
 pub read_through : (k : SourceKind) (n : ℕ) (beats : ℕ → ℕ → Option ℕ) → Sound (content k n beats) → (m p from i : ℕ) → p + m ≡ 256 → from ≤ p → ((q : ℕ) → from ≤ q → q < p → due k n q ≡ false)
-    → Ends k n beats (scanned (after k (partly (content k n beats) p) from) (gathered (row_at k n beats) (range_with_len p m)) i)
+    → Ends k n beats (scanned (after k (partly (content k n beats) p) from) (filter_map (row_at k n beats) (range_with_len p m)) i)
 read_through k n beats sound zero p from i e l none =
     let is : p ≡ 256 = omega arith in
     let s = partly (content k n beats) p in (
@@ -439,18 +431,18 @@ read_through k n beats sound (suc m) p from i e l none =
 
     go : (o : Option Word) → row_at k n beats p ≡ o
         → ((from' i : ℕ) → p + 1 + m ≡ 256 → from' ≤ p + 1 → ((q : ℕ) → from' ≤ q → q < p + 1 → due k n q ≡ false)
-        → Ends k n beats (scanned (after k (partly (content k n beats) (p + 1)) from') (gathered (row_at k n beats) (range_with_len (p + 1) m)) i))
-        → Ends k n beats (scanned (after k (partly (content k n beats) p) from) (joined (row_at k n beats p) (gathered (row_at k n beats) (range_with_len (p + 1) m))) i)
+        → Ends k n beats (scanned (after k (partly (content k n beats) (p + 1)) from') (filter_map (row_at k n beats) (range_with_len (p + 1) m)) i))
+        → Ends k n beats (scanned (after k (partly (content k n beats) p) from) (cons_option (row_at k n beats p) (filter_map (row_at k n beats) (range_with_len (p + 1) m))) i)
     go None h ih =
         let t = passed_over k n beats sound p h in
         let rest = ih from i (omega arith) (omega arith) (one_more t.1) in
-        let P : Option Word → Type 0 = λ o. Ends k n beats (scanned (after k (partly (content k n beats) p) from) (joined o (gathered (row_at k n beats) (range_with_len (p + 1) m))) i) in
-        let Q : Sheet → Type 0 = λ s. Ends k n beats (scanned (after k s from) (gathered (row_at k n beats) (range_with_len (p + 1) m)) i) in
+        let P : Option Word → Type 0 = λ o. Ends k n beats (scanned (after k (partly (content k n beats) p) from) (cons_option o (filter_map (row_at k n beats) (range_with_len (p + 1) m))) i) in
+        let Q : Sheet → Type 0 = λ s. Ends k n beats (scanned (after k s from) (filter_map (row_at k n beats) (range_with_len (p + 1) m)) i) in
         subst P (sym h) (subst Q (sym t.0) rest)
     go (Some word) h ih =
         let t = taken_in k n beats sound from p word l (omega arith) none h in
         let rest = ih (p / 16 * 16 + p % 16 + 1) (i + 1) (omega arith) (omega arith) (λ q a b. absurd (omega arith)) in
-        let P : Option Word → Type 0 = λ o. Ends k n beats (scanned (after k (partly (content k n beats) p) from) (joined o (gathered (row_at k n beats) (range_with_len (p + 1) m))) i) in
-        let Q : Sheet → Type 0 = λ s. Ends k n beats (scanned (after k s (p / 16 * 16 + p % 16 + 1)) (gathered (row_at k n beats) (range_with_len (p + 1) m)) (i + 1)) in
-        let R : Result Said Refusal → Type 0 = λ j. Ends k n beats (elim (advanced_by (after k (partly (content k n beats) p) from) j) as (λ _. Result Progress Misread) [ Ok q ↦ scanned q (gathered (row_at k n beats) (range_with_len (p + 1) m)) (i + 1) | Err e ↦ Err (record { refusal = e; word = i }) ]) in
+        let P : Option Word → Type 0 = λ o. Ends k n beats (scanned (after k (partly (content k n beats) p) from) (cons_option o (filter_map (row_at k n beats) (range_with_len (p + 1) m))) i) in
+        let Q : Sheet → Type 0 = λ s. Ends k n beats (scanned (after k s (p / 16 * 16 + p % 16 + 1)) (filter_map (row_at k n beats) (range_with_len (p + 1) m)) (i + 1)) in
+        let R : Result Said Refusal → Type 0 = λ j. Ends k n beats (elim (advanced_by (after k (partly (content k n beats) p) from) j) as (λ _. Result Progress Misread) [ Ok q ↦ scanned q (filter_map (row_at k n beats) (range_with_len (p + 1) m)) (i + 1) | Err e ↦ Err (record { refusal = e; word = i }) ]) in
         subst P (sym h) (subst R (sym t.says) (subst Q (sym t.puts) rest))

@@ -1,6 +1,6 @@
 -- Words that a reader accepts are the words of a sound content. Assumes nothing.
 use Rattle.std.proofs.Common.{◌≡◌, ℕ, ◌+◌, ◌-◌, ◌*◌, ◌/◌, ◌%◌, ◌<◌, ◌≤◌, Bool, true, false, cond, ◌&&◌, eqb, ltb, List, [], ◌∷◌, Some, None, Ok, Err, Option, Result, sym, refl, ap, ◌∙◌, subst, arith}
-use Rattle.std.specs.List.{range_with_len}
+use Rattle.std.specs.List.{range_with_len, filter_map}
 use Rattle.std.proofs.lemmas.Bool.{and_parts, and_from, and_left, or_parts, ltb-true, eqb-true, eq-eqb, ne_eqb, both_ways, cond-true, cond-false}
 use Rattle.facts.specs.declared.refusals.Refusal.{Refusal}
 use Rattle.facts.specs.declared.refusals.Refusal.TheVariants.{WordCountWrong}
@@ -17,9 +17,9 @@ use Rattle.sheets.specs.declared.rows.Awaited.TheVariants.{Head as a_head}
 use Rattle.sheets.specs.declared.rows.Said.{Said}
 use Rattle.sheets.specs.declared.rows.Said.TheVariants.{Head as field, Row as row}
 use Rattle.sheets.specs.Places.{has_row, next_row}
-use Rattle.sheets.specs.Contents.{carries_of, row_for, row_at, gathered}
+use Rattle.sheets.specs.Contents.{carries_of, row_for, row_at}
 use Rattle.sheets.specs.Judging.{judged}
-use Rattle.sheets.specs.Scanning.{Progress, outcome_at, price_at, awaited_from, advanced_by, complete, scanned}
+use Rattle.sheets.specs.Scanning.{Progress, outcome_at, price_at, awaited_from, after, advanced_by, complete, scanned}
 use Rattle.sheets.proofs.Stepping.{none_found, gathered_none, gathered_at}
 use Rattle.sheets.proofs.Taking.{due, Left-alone, Taken, taken, place_parts, head_legal}
 
@@ -133,9 +133,6 @@ module _ (k : SourceKind) (s : Sheet) (from : ℕ) (word : Word) (a b : ℕ) (fa
       cap_of false true o h = (or_parts (over_top facts.0) (over_top facts.1) t.capped).1
       cap_of false false o h = h
 
-      new : Sheet
-      new = amended s a b facts
-
       forth_is : (amended s a b facts).beats a b ≡ facts.0
       forth_is = cond-true (eqb a a && eqb b b) _ _ (and_from (eqb a a) (eqb b b) (eq-eqb a a refl) (eq-eqb b b refl))
 
@@ -164,18 +161,18 @@ module _ (k : SourceKind) (s : Sheet) (from : ℕ) (word : Word) (a b : ℕ) (fa
           ap (λ z. carries_of k i j z ((amended s a b facts).beats j i)) x ∙ ap (carries_of k i j (s.beats i j)) y ∙ good.carried i j o
 
 -- a head is awaited only at the beginning
-no_head_later : (k : SourceKind) (s : Sheet) (from : ℕ) → awaited_from k s from ≡ a_head → ⊥
+pub no_head_later : (k : SourceKind) (s : Sheet) (from : ℕ) → awaited_from k s from ≡ a_head → ⊥
 no_head_later Matrix s from h = go (next_row Matrix s.size from) h
   where
     go : (o : Option ℕ) → outcome_at o ≡ a_head → ⊥
-    go None e = let z : ◌≡◌ {A = ℕ} 0 1 = cc in omega arith
-    go (Some p) e = let z : ◌≡◌ {A = ℕ} 0 1 = cc in omega arith
-no_head_later Order s from h = let z : ◌≡◌ {A = ℕ} 0 1 = cc in omega arith
+    go None e = cc
+    go (Some p) e = cc
+no_head_later Order s from h = cc
 no_head_later Bribes s from h = go (next_row Bribes s.size from) h
   where
     go : (o : Option ℕ) → price_at s o ≡ a_head → ⊥
-    go None e = let z : ◌≡◌ {A = ℕ} 0 1 = cc in omega arith
-    go (Some p) e = let z : ◌≡◌ {A = ℕ} 0 1 = cc in omega arith
+    go None e = cc
+    go (Some p) e = cc
 
 -- where the words may end, no row is due any more
 none_due : (k : SourceKind) (s : Sheet) (from : ℕ) → complete (awaited_from k s from) ≡ true → (p : ℕ) → from ≤ p → p < 256 → due k s.size p ≡ false
@@ -184,15 +181,12 @@ none_due Matrix s from h p l r = go (next_row Matrix s.size from) refl h
   where
     go : (o : Option ℕ) → next_row Matrix s.size from ≡ o → complete (outcome_at o) ≡ true → has_row Matrix s.size p ≡ false
     go None e h = none_found (has_row Matrix s.size) from (256 - from) e p l (omega arith)
-    go (Some q) e h = absurd (both_ways false refl h)
+    go (Some q) e h = absurd (cc)
 none_due Bribes s from h p l r = go (next_row Bribes s.size from) refl h
   where
     go : (o : Option ℕ) → next_row Bribes s.size from ≡ o → complete (price_at s o) ≡ true → has_row Bribes s.size p ≡ false
     go None e h = none_found (has_row Bribes s.size) from (256 - from) e p l (omega arith)
-    go (Some q) e h = absurd (both_ways false refl h)
-
-abbrev pub after : SourceKind → Sheet → ℕ → Progress
-after k s from = record { awaited = awaited_from k s from; kind = k; sheet = s }
+    go (Some q) e h = absurd (cc)
 
 -- what is known of the end of a scan that passed
 pub record Read-off (k : SourceKind) (s : Sheet) (from : ℕ) (ws : List Word) (p : Progress) : Type 0 where
@@ -200,7 +194,7 @@ pub record Read-off (k : SourceKind) (s : Sheet) (from : ℕ) (ws : List Word) (
   pub size : p.sheet.size ≡ s.size
   pub good : Good k p.sheet
   pub before : Alike-before k from s p.sheet
-  pub words : ws ≡ gathered (row_at k s.size p.sheet.beats) (range_with_len from (256 - from))
+  pub words : ws ≡ filter_map (row_at k s.size p.sheet.beats) (range_with_len from (256 - from))
 
 pub read_off : (ws : List Word) (k : SourceKind) (s : Sheet) (from i : ℕ) (p : Progress) → from ≤ 256 → Good k s → Blank k s from → scanned (after k s from) ws i ≡ Ok p → Read-off k s from ws p
 read_off [] k s from i p inside good blank h = go (complete (awaited_from k s from)) refl h
@@ -218,13 +212,13 @@ read_off [] k s from i p inside good blank h = go (complete (awaited_from k s fr
 
     go : (b : Bool) → complete (awaited_from k s from) ≡ b → ◌≡◌ {A = Result Progress Misread} (cond b (Ok (after k s from)) (Err (record { refusal = WordCountWrong; word = i }))) (Ok p) → Read-off k s from [] p
     go true e q = let is : after k s from ≡ p = cc in subst (λ (x : Progress). Read-off k s from [] x) is (ending e)
-    go false e q = absurd (let z : ◌≡◌ {A = ℕ} 0 1 = cc in omega arith)
+    go false e q = absurd (cc)
 read_off (w ∷ ws) k s from i p inside good blank h = go (judged s.size (awaited_from k s from) w) refl (λ s' from'. read_off ws k s' from' (i + 1) p) h
   where
     go : (j : Result Said Refusal) → judged s.size (awaited_from k s from) w ≡ j
         → ((s' : Sheet) (from' : ℕ) → from' ≤ 256 → Good k s' → Blank k s' from' → scanned (after k s' from') ws (i + 1) ≡ Ok p → Read-off k s' from' ws p)
         → (elim (advanced_by (after k s from) j) as (λ _. Result Progress Misread) [ Ok q ↦ scanned q ws (i + 1) | Err e ↦ Err (record { refusal = e; word = i }) ]) ≡ Ok p → Read-off k s from (w ∷ ws) p
-    go (Err e) is ih q = absurd (let z : ◌≡◌ {A = ℕ} 0 1 = cc in omega arith)
+    go (Err e) is ih q = absurd (cc)
     go (Ok (field n j)) is ih q = absurd (no_head_later k s from (head_legal s.size n j (awaited_from k s from) w is).0)
     go (Ok (row a b facts)) is ih q =
         let t = taken k s from w a b facts good.size_legal good.capped is in

@@ -1,12 +1,13 @@
 -- What an accepted row tells. Assumes nothing.
 use Rattle.std.proofs.Common.{◌≡◌, ℕ, ◌+◌, ◌-◌, ◌*◌, ◌/◌, ◌%◌, ◌<◌, ◌≤◌, Bool, true, false, cond, not, ◌&&◌, ◌||◌, eqb, ltb, ◌⊎◌, Some, None, Ok, Err, Option, Result, sym, refl, ap, ◌∙◌, subst, inl, inr, arith}
-use Rattle.std.proofs.lemmas.Bool.{and_parts, and_from, or_parts, or_from, not-false, not_from_false, ltb-false, lt-ltb, eqb-true, ne_eqb, both_ways, or_left, or_right}
+use Rattle.std.proofs.lemmas.Bool.{and_parts, and_from, or_parts, or_from, not_from_false, ltb-false, lt-ltb, eqb-true, ne_eqb, or_left, or_right}
 use Rattle.facts.specs.declared.refusals.Refusal.{Refusal}
-use Rattle.facts.specs.declared.refusals.Refusal.TheVariants.{SizeNotAllowed, SourceUnknown, EntrantsImpossible, EntrantsNotAwaited, PriceNotAllowed, SecondPriceNotFree, EntrantUnknown, EntrantsEqual, PriceAboveTop, NeitherSideFree, PairingNotCarried}
+use Rattle.facts.specs.declared.refusals.Refusal.TheVariants.{SizeNotAllowed, EntrantsImpossible, EntrantsNotAwaited, PriceNotAllowed, SecondPriceNotFree, EntrantUnknown, EntrantsEqual, PriceAboveTop, NeitherSideFree, PairingNotCarried}
 use Rattle.facts.specs.Facts.{free, over_top, one_free}
 use Rattle.facts.specs.Fields.{legal, opponents}
 use Rattle.facts.specs.Sheets.{Sheet}
 use Rattle.facts.specs.Amendments.{refusal_of}
+use Rattle.sources.specs.Kinds.{kind_of}
 use Rattle.sources.specs.Orders.{plain}
 use Rattle.sources.specs.Held.{turned}
 use Rattle.sources.specs.declared.kind.SourceKind.{SourceKind}
@@ -20,7 +21,7 @@ use Rattle.sheets.specs.declared.rows.Said.{Said}
 use Rattle.sheets.specs.declared.rows.Said.TheVariants.{Head as field, Row as row}
 use Rattle.sheets.specs.Places.{has_row, next_row}
 use Rattle.sheets.specs.Contents.{carries_of, row_for}
-use Rattle.sheets.specs.Judging.{read_fact, sourced, judged_head, judged_upset, judged}
+use Rattle.sheets.specs.Judging.{sourced, judged_head, judged_upset, priced, judged}
 use Rattle.sheets.specs.Scanning.{outcome_at, price_at, awaited_from}
 use Rattle.sheets.proofs.Stepping.{First, first_found}
 
@@ -46,40 +47,38 @@ pub record Taken (k : SourceKind) (s : Sheet) (from : ℕ) (word : Word) (a b : 
   pub capped : (over_top facts.0 || over_top facts.1) ≡ false
   pub other : Left-alone k s a b facts.1
 
-never_both : {P : Type 0} (e : Refusal) (x : Said) → Err e ≡ Ok x → P
-never_both e x h = absurd (let z : ◌≡◌ {A = ℕ} 0 1 = cc in omega arith)
-
 -- the place of a winner and a loser, and back
 pub place_parts : (a b : ℕ) → b < 16 → ((a * 16 + b) / 16 ≡ a) × ((a * 16 + b) % 16 ≡ b)
 place_parts a b h = (omega arith, omega arith)
-
--- where a row of two opponents can stand
-pub stands_at : (k : SourceKind) (n a b : ℕ) → b < 16 → has_row k n (a * 16 + b) ≡ has_row k n ((a * 16 + b) / 16 * 16 + (a * 16 + b) % 16)
-stands_at k n a b h = ap (has_row k n) (omega arith)
 
 outcome_taken : (x y z : Bool) (lower higher a b : ℕ) (facts : Option ℕ × Option ℕ)
     → ◌≡◌ {A = Result Said Refusal} (cond (not x) (Err EntrantsImpossible) (cond y (Ok (row lower higher (Some 0, None))) (cond z (Ok (row lower higher (None, Some 0))) (Err EntrantsNotAwaited)))) (Ok (row a b facts))
     → (x ≡ true) × (lower ≡ a) × (higher ≡ b) × (((y ≡ true) × ((Some 0, None) ≡ facts)) ⊎ ((z ≡ true) × ((None, Some 0) ≡ facts)))
 outcome_taken true true z lower higher a b facts e = (refl, cc, cc, inl (refl, cc))
 outcome_taken true false true lower higher a b facts e = (refl, cc, cc, inr (refl, cc))
-outcome_taken true false false lower higher a b facts e = never_both _ _ e
-outcome_taken false y z lower higher a b facts e = never_both _ _ e
+outcome_taken true false false lower higher a b facts e = absurd (cc)
+outcome_taken false y z lower higher a b facts e = absurd (cc)
 
 upset_taken : (x y : Bool) (w l a b : ℕ) (facts : Option ℕ × Option ℕ)
     → ◌≡◌ {A = Result Said Refusal} (cond (not x) (Err EntrantsImpossible) (cond y (Err EntrantsNotAwaited) (Ok (row w l (Some 0, Some 0))))) (Ok (row a b facts))
     → (x ≡ true) × (y ≡ false) × (w ≡ a) × (l ≡ b) × ((Some 0, Some 0) ≡ facts)
 upset_taken true false w l a b facts e = (refl, refl, cc, cc, cc)
-upset_taken true true w l a b facts e = never_both _ _ e
-upset_taken false y w l a b facts e = never_both _ _ e
+upset_taken true true w l a b facts e = absurd (cc)
+upset_taken false y w l a b facts e = absurd (cc)
 
-price_taken : (x y z u : Bool) (w l a b : ℕ) (f g : Option ℕ) (facts : Option ℕ × Option ℕ)
-    → ◌≡◌ {A = Result Said Refusal} (cond (not x) (Err EntrantsImpossible) (cond (not y) (Err EntrantsNotAwaited) (cond z (Err PriceNotAllowed) (cond (not u) (Err SecondPriceNotFree) (Ok (row w l (f, g))))))) (Ok (row a b facts))
-    → (x ≡ true) × (y ≡ true) × (z ≡ false) × (u ≡ true) × (w ≡ a) × (l ≡ b) × ((f, g) ≡ facts)
-price_taken true true false true w l a b f g facts e = (refl, refl, refl, refl, cc, cc, cc)
-price_taken true true false false w l a b f g facts e = never_both _ _ e
-price_taken true true true u w l a b f g facts e = never_both _ _ e
-price_taken true false z u w l a b f g facts e = never_both _ _ e
-price_taken false y z u w l a b f g facts e = never_both _ _ e
+priced_taken : (x y : Bool) (w l a b : ℕ) (fact : Option (Option ℕ)) (other : Option ℕ) (facts : Option ℕ × Option ℕ)
+    → ◌≡◌ {A = Result Said Refusal} (cond (not x) (Err EntrantsImpossible) (cond (not y) (Err EntrantsNotAwaited) (priced w l fact other))) (Ok (row a b facts))
+    → (x ≡ true) × (y ≡ true) × (f : Option ℕ) × (fact ≡ Some f) × (over_top f ≡ false) × ((free f || free other) ≡ true) × (w ≡ a) × (l ≡ b) × ((f, other) ≡ facts)
+priced_taken true true w l a b (Some f) other facts e = go (over_top f) (free f || free other) refl refl e
+  where
+    go : (z u : Bool) → over_top f ≡ z → (free f || free other) ≡ u → ◌≡◌ {A = Result Said Refusal} (cond z (Err PriceNotAllowed) (cond (not u) (Err SecondPriceNotFree) (Ok (row w l (f, other))))) (Ok (row a b facts))
+        → (true ≡ true) × (true ≡ true) × (g : Option ℕ) × (Some f ≡ Some g) × (over_top g ≡ false) × ((free g || free other) ≡ true) × (w ≡ a) × (l ≡ b) × ((g, other) ≡ facts)
+    go false true p q h = (refl, refl, f, refl, p, q, cc, cc, cc)
+    go false false p q h = absurd (cc)
+    go true u p q h = absurd (cc)
+priced_taken true true w l a b None other facts e = absurd (cc)
+priced_taken true false w l a b fact other facts e = absurd (cc)
+priced_taken false y w l a b fact other facts e = absurd (cc)
 
 moved : (k : SourceKind) (s : Sheet) (from : ℕ) (word : Word) (a b a' b' : ℕ) (f f' : Option ℕ × Option ℕ) → a ≡ a' → b ≡ b' → f ≡ f' → Taken k s from word a b f → Taken k s from word a' b' f'
 moved k s from word a b a' b' f f' p q r t =
@@ -91,11 +90,11 @@ moved k s from word a b a' b' f f' p q r t =
 module _ (s : Sheet) (from : ℕ) (leg : legal s.size ≡ true) where
   matrix_taken : (word : Word) (a b : ℕ) (facts : Option ℕ × Option ℕ) (o : Option ℕ) → next_row Matrix s.size from ≡ o
       → judged s.size (outcome_at o) word ≡ Ok (row a b facts) → Taken Matrix s from word a b facts
-  matrix_taken word a b facts None e h = never_both _ _ h
-  matrix_taken (Head size source) a b facts (Some p) e h = never_both _ _ h
-  matrix_taken (Price w l price never) a b facts (Some p) e h = never_both _ _ h
-  matrix_taken (Upset w l) a b facts (Some p) e h = never_both _ _ h
-  matrix_taken Stray a b facts (Some p) e h = never_both _ _ h
+  matrix_taken word a b facts None e h = absurd (cc)
+  matrix_taken (Head size source) a b facts (Some p) e h = absurd (cc)
+  matrix_taken (Price w l fact) a b facts (Some p) e h = absurd (cc)
+  matrix_taken (Upset w l) a b facts (Some p) e h = absurd (cc)
+  matrix_taken Stray a b facts (Some p) e h = absurd (cc)
   matrix_taken (Outcome w l) a b facts (Some p) e h =
       let t = outcome_taken (opponents s.size w l) (eqb w (p / 16) && eqb l (p % 16)) (eqb w (p % 16) && eqb l (p / 16)) (p / 16) (p % 16) a b facts h in
       moved Matrix s from (Outcome w l) (p / 16) (p % 16) a b facts facts t.1 t.2 refl (go t)
@@ -137,10 +136,10 @@ module _ (s : Sheet) (from : ℕ) (leg : legal s.size ≡ true) where
           with_facts (None, Some 0) v (ap (λ i. Some (Outcome i (p / 16))) (sym is-w) ∙ ap (λ i. Some (Outcome w i)) (sym is-l)) refl refl
 
   order_taken : (word : Word) (a b : ℕ) (facts : Option ℕ × Option ℕ) → judged_upset s.size from word ≡ Ok (row a b facts) → Taken Order s from word a b facts
-  order_taken (Head size source) a b facts h = never_both _ _ h
-  order_taken (Price w l price never) a b facts h = never_both _ _ h
-  order_taken (Outcome w l) a b facts h = never_both _ _ h
-  order_taken Stray a b facts h = never_both _ _ h
+  order_taken (Head size source) a b facts h = absurd (cc)
+  order_taken (Price w l fact) a b facts h = absurd (cc)
+  order_taken (Outcome w l) a b facts h = absurd (cc)
+  order_taken Stray a b facts h = absurd (cc)
   order_taken (Upset w l) a b facts h =
       let t = upset_taken (opponents s.size w l) (ltb w l || ltb (w * 16 + l) from) w l a b facts h in
       moved Order s from (Upset w l) w l a b (Some 0, Some 0) facts t.2 t.3 t.4 (go t.0 (or_parts (ltb w l) (ltb (w * 16 + l) from) t.1).0 (or_parts (ltb w l) (ltb (w * 16 + l) from) t.1).1)
@@ -165,41 +164,32 @@ module _ (s : Sheet) (from : ℕ) (leg : legal s.size ≡ true) where
 
   bribe_taken : ((x y : ℕ) → over_top (s.beats x y) ≡ false) → (word : Word) (a b : ℕ) (facts : Option ℕ × Option ℕ) (o : Option ℕ) → next_row Bribes s.size from ≡ o
       → judged s.size (price_at s o) word ≡ Ok (row a b facts) → Taken Bribes s from word a b facts
-  bribe_taken under_top word a b facts None e h = never_both _ _ h
-  bribe_taken under_top (Head size source) a b facts (Some p) e h = never_both _ _ h
-  bribe_taken under_top (Outcome w l) a b facts (Some p) e h = never_both _ _ h
-  bribe_taken under_top (Upset w l) a b facts (Some p) e h = never_both _ _ h
-  bribe_taken under_top Stray a b facts (Some p) e h = never_both _ _ h
-  bribe_taken under_top (Price w l price never) a b facts (Some p) e h =
-      let t = price_taken (opponents s.size w l) (eqb w (p / 16) && eqb l (p % 16)) (ltb 1000000 price || (never && not (eqb price 0))) (free (read_fact price never) || free (s.beats (p % 16) (p / 16))) w l a b (read_fact price never) (s.beats (p % 16) (p / 16)) facts h in
-      let q = and_parts (eqb w (p / 16)) (eqb l (p % 16)) t.1 in
-      let r = or_parts (ltb 1000000 price) (never && not (eqb price 0)) t.2 in
-      moved Bribes s from (Price w l price never) w l a b (read_fact price never, s.beats (p % 16) (p / 16)) facts t.4 t.5 t.6
-      (go t.0 (eqb-true w (p / 16) q.0) (eqb-true l (p % 16) q.1) r.0 r.1 t.3)
+  bribe_taken under_top word a b facts None e h = absurd (cc)
+  bribe_taken under_top (Head size source) a b facts (Some p) e h = absurd (cc)
+  bribe_taken under_top (Outcome w l) a b facts (Some p) e h = absurd (cc)
+  bribe_taken under_top (Upset w l) a b facts (Some p) e h = absurd (cc)
+  bribe_taken under_top Stray a b facts (Some p) e h = absurd (cc)
+  bribe_taken under_top (Price w l fact) a b facts (Some p) e h =
+      let (x, y, f, is, capped, z, wa, lb, fs) = priced_taken (opponents s.size w l) (eqb w (p / 16) && eqb l (p % 16)) w l a b fact (s.beats (p % 16) (p / 16)) facts h in
+      let q = and_parts (eqb w (p / 16)) (eqb l (p % 16)) y in
+      moved Bribes s from (Price w l fact) w l a b (f, s.beats (p % 16) (p / 16)) facts wa lb fs
+      (go f is x (eqb-true w (p / 16) q.0) (eqb-true l (p % 16) q.1) capped z)
     where
       found : First (has_row Bribes s.size) from p (from + (256 - from))
       found = first_found (has_row Bribes s.size) from (256 - from) p e
 
-      said : (mark : Bool) → (mark && not (eqb price 0)) ≡ false → row_for Bribes w l (read_fact price mark) ≡ Some (Price w l price mark)
-      said true u = ap (λ i. Some (Price w l i true)) (sym (eqb-true price 0 (not-false (eqb price 0) u)))
-      said false u = refl
-
-      under : (mark : Bool) → ltb 1000000 price ≡ false → over_top (read_fact price mark) ≡ false
-      under true u = refl
-      under false u = u
-
-      go : opponents s.size w l ≡ true → w ≡ p / 16 → l ≡ p % 16 → ltb 1000000 price ≡ false → (never && not (eqb price 0)) ≡ false → (free (read_fact price never) || free (s.beats (p % 16) (p / 16))) ≡ true
-          → Taken Bribes s from (Price w l price never) w l (read_fact price never, s.beats (p % 16) (p / 16))
-      go x is-w is-l u v z =
+      go : (f : Option ℕ) → fact ≡ Some f → opponents s.size w l ≡ true → w ≡ p / 16 → l ≡ p % 16 → over_top f ≡ false → (free f || free (s.beats (p % 16) (p / 16))) ≡ true
+          → Taken Bribes s from (Price w l fact) w l (f, s.beats (p % 16) (p / 16))
+      go f is-fact x is-w is-l u z =
           let is : w * 16 + l ≡ p = omega arith in
           record {
             meet = x;
             behind = omega (arith, found.behind);
             stands = ap (has_row Bribes s.size) is ∙ found.passes;
             skipped = λ i l r. found.none i l (omega arith);
-            says = said never v;
+            says = ap (λ o. Some (Price w l o)) (sym is-fact);
             carried = z;
-            capped = or_from (over_top (read_fact price never)) (over_top (s.beats (p % 16) (p / 16))) (under never u) (under_top (p % 16) (p / 16));
+            capped = or_from (over_top f) (over_top (s.beats (p % 16) (p / 16))) u (under_top (p % 16) (p / 16));
             other = ap (λ i. s.beats i (p / 16)) (sym is-l) ∙ ap (λ i. s.beats l i) (sym is-w);
           }
 
@@ -214,7 +204,7 @@ pub carried_free : (k : SourceKind) (a b : ℕ) (f g : Option ℕ) → carries_o
 carried_free Matrix a b None None h = h
 carried_free Matrix a b None (Some q) h = h
 carried_free Matrix a b (Some p) None h = or_left (eqb p 0) false h
-carried_free Matrix a b (Some p) (Some q) h = absurd (both_ways false refl h)
+carried_free Matrix a b (Some p) (Some q) h = absurd (cc)
 carried_free Order a b f g h =
     let t = and_parts (not (eqb a b)) (free (turned a b (f, g)).0 && plain (turned a b (f, g)).1) h in
     go (ltb a b) (and_parts (free (turned a b (f, g)).0) (plain (turned a b (f, g)).1) t.1).0
@@ -235,82 +225,71 @@ unrefused k s from word a b facts same t =
         → ◌≡◌ {A = Option Refusal} (cond (not (p && q)) (Some EntrantUnknown) (cond e (Some EntrantsEqual) (cond x (Some PriceAboveTop) (cond (not y) (Some NeitherSideFree) (cond (not c) (Some PairingNotCarried) None))))) None
     go p q e x y c g h i j = grind arith
 
-no_head : {P : Type 0} (a b m : ℕ) (f : Option ℕ × Option ℕ) (k : SourceKind) → ◌≡◌ {A = Result Said Refusal} (Ok (row a b f)) (Ok (field m k)) → P
-no_head a b m f k h = absurd (let z : ◌≡◌ {A = ℕ} 0 1 = cc in omega arith)
-
-never_head : {P : Type 0} (e : Refusal) (m : ℕ) (k : SourceKind) → Err e ≡ Ok (field m k) → P
-never_head e m k h = absurd (let z : ◌≡◌ {A = ℕ} 0 1 = cc in omega arith)
-
 -- what passes as a head was awaited as one, and names a legal size
 module _ (n m : ℕ) (k : SourceKind) where
-  sourced_legal : (size source : ℕ) (g : Bool) → legal size ≡ g → ◌≡◌ {A = Result Said Refusal} (cond (not g) (Err SizeNotAllowed) (sourced size source)) (Ok (field m k)) → legal m ≡ true
-  sourced_legal size source false e h = never_head _ _ _ h
-  sourced_legal size source true e h = go (eqb source 0) (eqb source 1) (eqb source 2) h
+  sourced_legal : (size source : ℕ) (g : Bool) → legal size ≡ g → ◌≡◌ {A = Result Said Refusal} (cond (not g) (Err SizeNotAllowed) (sourced size (kind_of source))) (Ok (field m k)) → legal m ≡ true
+  sourced_legal size source false e h = absurd (cc)
+  sourced_legal size source true e h = go (kind_of source) h
     where
-      named : (j : SourceKind) → ◌≡◌ {A = Result Said Refusal} (Ok (field size j)) (Ok (field m k)) → legal m ≡ true
-      named j q = let is : size ≡ m = cc in ap legal (sym is) ∙ e
-
-      go : (x y z : Bool) → ◌≡◌ {A = Result Said Refusal} (cond x (Ok (field size Matrix)) (cond y (Ok (field size Order)) (cond z (Ok (field size Bribes)) (Err SourceUnknown)))) (Ok (field m k)) → legal m ≡ true
-      go true y z q = named Matrix q
-      go false true z q = named Order q
-      go false false true q = named Bribes q
-      go false false false q = never_head _ _ _ q
+      go : (j : Result SourceKind Refusal) → sourced size j ≡ Ok (field m k) → legal m ≡ true
+      go (Ok j) q = let is : size ≡ m = cc in ap legal (sym is) ∙ e
+      go (Err e) q = absurd (cc)
 
   outcome_no_head : {P : Type 0} (x y z : Bool) (a b : ℕ) → ◌≡◌ {A = Result Said Refusal} (cond (not x) (Err EntrantsImpossible) (cond y (Ok (row a b (Some 0, None))) (cond z (Ok (row a b (None, Some 0))) (Err EntrantsNotAwaited)))) (Ok (field m k)) → P
-  outcome_no_head false y z a b h = never_head _ _ _ h
-  outcome_no_head true true z a b h = no_head _ _ _ _ _ h
-  outcome_no_head true false true a b h = no_head _ _ _ _ _ h
-  outcome_no_head true false false a b h = never_head _ _ _ h
+  outcome_no_head false y z a b h = absurd (cc)
+  outcome_no_head true true z a b h = absurd (cc)
+  outcome_no_head true false true a b h = absurd (cc)
+  outcome_no_head true false false a b h = absurd (cc)
 
   upset_no_head : {P : Type 0} (x y : Bool) (a b : ℕ) → ◌≡◌ {A = Result Said Refusal} (cond (not x) (Err EntrantsImpossible) (cond y (Err EntrantsNotAwaited) (Ok (row a b (Some 0, Some 0))))) (Ok (field m k)) → P
-  upset_no_head false y a b h = never_head _ _ _ h
-  upset_no_head true true a b h = never_head _ _ _ h
-  upset_no_head true false a b h = no_head _ _ _ _ _ h
+  upset_no_head false y a b h = absurd (cc)
+  upset_no_head true true a b h = absurd (cc)
+  upset_no_head true false a b h = absurd (cc)
 
-  price_no_head : {P : Type 0} (x y z u : Bool) (a b : ℕ) (f : Option ℕ × Option ℕ) → ◌≡◌ {A = Result Said Refusal} (cond (not x) (Err EntrantsImpossible) (cond (not y) (Err EntrantsNotAwaited) (cond z (Err PriceNotAllowed) (cond (not u) (Err SecondPriceNotFree) (Ok (row a b f)))))) (Ok (field m k)) → P
-  price_no_head false y z u a b f h = never_head _ _ _ h
-  price_no_head true false z u a b f h = never_head _ _ _ h
-  price_no_head true true true u a b f h = never_head _ _ _ h
-  price_no_head true true false false a b f h = never_head _ _ _ h
-  price_no_head true true false true a b f h = no_head _ _ _ _ _ h
+  price_no_head : {P : Type 0} (x y : Bool) (w l : ℕ) (fact : Option (Option ℕ)) (other : Option ℕ)
+      → ◌≡◌ {A = Result Said Refusal} (cond (not x) (Err EntrantsImpossible) (cond (not y) (Err EntrantsNotAwaited) (priced w l fact other))) (Ok (field m k)) → P
+  price_no_head false y w l fact other h = absurd (cc)
+  price_no_head true false w l fact other h = absurd (cc)
+  price_no_head true true w l None other h = absurd (cc)
+  price_no_head true true w l (Some f) other h = go (over_top f) (free f || free other) h
+    where
+      go : {Q : Type 0} (z u : Bool) → ◌≡◌ {A = Result Said Refusal} (cond z (Err PriceNotAllowed) (cond (not u) (Err SecondPriceNotFree) (Ok (row w l (f, other))))) (Ok (field m k)) → Q
+      go true u q = absurd (cc)
+      go false false q = absurd (cc)
+      go false true q = absurd (cc)
 
   pub head_legal : (x : Awaited) (word : Word) → judged n x word ≡ Ok (field m k) → (x ≡ a_head) × (legal m ≡ true)
   head_legal a_head (Head size source) h = (refl, sourced_legal size source (legal size) refl h)
-  head_legal a_head (Price w l price never) h = never_head _ _ _ h
-  head_legal a_head (Upset w l) h = never_head _ _ _ h
-  head_legal a_head (Outcome w l) h = never_head _ _ _ h
-  head_legal a_head Stray h = never_head _ _ _ h
+  head_legal a_head (Price w l fact) h = absurd (cc)
+  head_legal a_head (Upset w l) h = absurd (cc)
+  head_legal a_head (Outcome w l) h = absurd (cc)
+  head_legal a_head Stray h = absurd (cc)
   head_legal (an_outcome a b) (Outcome w l) h = outcome_no_head (opponents n w l) (eqb w a && eqb l b) (eqb w b && eqb l a) a b h
-  head_legal (an_outcome a b) (Head size source) h = never_head _ _ _ h
-  head_legal (an_outcome a b) (Price w l price never) h = never_head _ _ _ h
-  head_legal (an_outcome a b) (Upset w l) h = never_head _ _ _ h
-  head_legal (an_outcome a b) Stray h = never_head _ _ _ h
+  head_legal (an_outcome a b) (Head size source) h = absurd (cc)
+  head_legal (an_outcome a b) (Price w l fact) h = absurd (cc)
+  head_legal (an_outcome a b) (Upset w l) h = absurd (cc)
+  head_legal (an_outcome a b) Stray h = absurd (cc)
   head_legal (an_upset from) (Upset w l) h = upset_no_head (opponents n w l) (ltb w l || ltb (w * 16 + l) from) w l h
-  head_legal (an_upset from) (Head size source) h = never_head _ _ _ h
-  head_legal (an_upset from) (Price w l price never) h = never_head _ _ _ h
-  head_legal (an_upset from) (Outcome w l) h = never_head _ _ _ h
-  head_legal (an_upset from) Stray h = never_head _ _ _ h
-  head_legal (a_price a b other) (Price w l price never) h = price_no_head (opponents n w l) (eqb w a && eqb l b) (ltb 1000000 price || (never && not (eqb price 0))) (free (read_fact price never) || free other) w l (read_fact price never, other) h
-  head_legal (a_price a b other) (Head size source) h = never_head _ _ _ h
-  head_legal (a_price a b other) (Upset w l) h = never_head _ _ _ h
-  head_legal (a_price a b other) (Outcome w l) h = never_head _ _ _ h
-  head_legal (a_price a b other) Stray h = never_head _ _ _ h
-  head_legal nothing word h = never_head _ _ _ h
+  head_legal (an_upset from) (Head size source) h = absurd (cc)
+  head_legal (an_upset from) (Price w l fact) h = absurd (cc)
+  head_legal (an_upset from) (Outcome w l) h = absurd (cc)
+  head_legal (an_upset from) Stray h = absurd (cc)
+  head_legal (a_price a b other) (Price w l fact) h = price_no_head (opponents n w l) (eqb w a && eqb l b) w l fact other h
+  head_legal (a_price a b other) (Head size source) h = absurd (cc)
+  head_legal (a_price a b other) (Upset w l) h = absurd (cc)
+  head_legal (a_price a b other) (Outcome w l) h = absurd (cc)
+  head_legal (a_price a b other) Stray h = absurd (cc)
+  head_legal nothing word h = absurd (cc)
 
 -- a head is no row
 pub head_no_row : {P : Type 0} (word : Word) (a b : ℕ) (facts : Option ℕ × Option ℕ) → judged_head word ≡ Ok (row a b facts) → P
-head_no_row (Head size source) a b facts h = go (legal size) (eqb source 0) (eqb source 1) (eqb source 2) h
+head_no_row (Head size source) a b facts h = go (legal size) (kind_of source) h
   where
-    no : {Q : Type 0} (k : SourceKind) → ◌≡◌ {A = Result Said Refusal} (Ok (field size k)) (Ok (row a b facts)) → Q
-    no k q = absurd (let z : ◌≡◌ {A = ℕ} 0 1 = cc in omega arith)
-
-    go : {Q : Type 0} (g x y z : Bool) → ◌≡◌ {A = Result Said Refusal} (cond (not g) (Err SizeNotAllowed) (cond x (Ok (field size Matrix)) (cond y (Ok (field size Order)) (cond z (Ok (field size Bribes)) (Err SourceUnknown))))) (Ok (row a b facts)) → Q
-    go false x y z q = never_both _ _ q
-    go true true y z q = no Matrix q
-    go true false true z q = no Order q
-    go true false false true q = no Bribes q
-    go true false false false q = never_both _ _ q
-head_no_row (Price w l price never) a b facts h = never_both _ _ h
-head_no_row (Upset w l) a b facts h = never_both _ _ h
-head_no_row (Outcome w l) a b facts h = never_both _ _ h
-head_no_row Stray a b facts h = never_both _ _ h
+    go : {Q : Type 0} (g : Bool) (j : Result SourceKind Refusal) → ◌≡◌ {A = Result Said Refusal} (cond (not g) (Err SizeNotAllowed) (sourced size j)) (Ok (row a b facts)) → Q
+    go false j q = absurd (cc)
+    go true (Ok k) q = absurd (cc)
+    go true (Err e) q = absurd (cc)
+head_no_row (Price w l fact) a b facts h = absurd (cc)
+head_no_row (Upset w l) a b facts h = absurd (cc)
+head_no_row (Outcome w l) a b facts h = absurd (cc)
+head_no_row Stray a b facts h = absurd (cc)

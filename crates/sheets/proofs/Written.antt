@@ -15,9 +15,6 @@ bytes_length (w ∷ ws) = let ih = bytes_length ws in omega (arith, ih)
 abbrev pub beginning : List ℕ → List ℕ → List ℕ
 beginning done buffer = done ++ drop (length done) buffer
 
-pub begun : (buffer : List ℕ) → buffer ≡ beginning [] buffer
-begun buffer = refl
-
 -- a word put behind it
 pub written_more : (done buffer now : List ℕ) (end bits : ℕ) → now ≡ beginning done buffer → end ≡ length done
     → take end now ++ (bytes_of (bits ∷ []) ++ drop (end + 4) now) ≡ beginning (done ++ bytes_of (bits ∷ [])) buffer

@@ -1,6 +1,6 @@
 -- What a sheet says, the words that say it, and the sheet that it gives.
-use Rattle.std.specs.Prelude.{◌≡◌, ℕ, ◌/◌, ◌%◌, Bool, true, false, cond, List, [], ◌∷◌, map, Some, None, Option}
-use Rattle.std.specs.List.{range_with_len}
+use Rattle.std.specs.Prelude.{◌≡◌, ℕ, ◌/◌, ◌%◌, Bool, true, false, cond, List, ◌∷◌, map, Some, None, Option}
+use Rattle.std.specs.List.{range_with_len, filter_map}
 use Rattle.facts.specs.Facts.{free, over_top, one_free}
 use Rattle.facts.specs.Fields.{legal, opponents}
 use Rattle.facts.specs.Sheets.{Sheet, SameSheet}
@@ -46,33 +46,19 @@ sheet_of c =
       carries = carries_of c.kind;
     }
 
--- a price, or the mark of a win that cannot be bought
-abbrev pub price_word : ℕ → ℕ → Option ℕ → Word
-price_word w l None = Price w l 0 true
-price_word w l (Some price) = Price w l price false
-
 -- the row of a first and a second entrant, by what it takes for the first to win; an order has none where no upset is marked
 abbrev pub row_for : SourceKind → ℕ → ℕ → Option ℕ → Option Word
 row_for Matrix w l fact = Some (cond (free fact) (Outcome w l) (Outcome l w))
 row_for Order w l fact = cond (free fact) (Some (Upset w l)) None
-row_for Bribes w l fact = Some (price_word w l fact)
+row_for Bribes w l fact = Some (Price w l (Some fact))
 
 -- the row that stands at a place
 abbrev pub row_at : SourceKind → ℕ → (ℕ → ℕ → Option ℕ) → ℕ → Option Word
 row_at k n beats p = cond (has_row k n p) (row_for k (p / 16) (p % 16) (beats (p / 16) (p % 16))) None
 
-abbrev pub joined : {X : Type 0} → Option X → List X → List X
-joined None xs = xs
-joined (Some x) xs = x ∷ xs
-
--- what a function tells of each of a list, where it tells something
-abbrev pub gathered : {X Y : Type 0} → (X → Option Y) → List X → List Y
-gathered f [] = []
-gathered f (x ∷ xs) = joined (f x) (gathered f xs)
-
 -- all rows, by rising place
 unfoldable pub rows_of : SourceKind → ℕ → (ℕ → ℕ → Option ℕ) → List Word
-rows_of k n beats = gathered (row_at k n beats) (range_with_len 0 256)
+rows_of k n beats = filter_map (row_at k n beats) (range_with_len 0 256)
 
 -- the words of a content: its head, then its rows
 abbrev pub words_of_content : Content → List Word

@@ -9,13 +9,27 @@ use Rattle.sources.specs.Orders.{order_sheet, no_upsets}
 use Rattle.sources.specs.Bribery.{bribe_sheet, all_free}
 use Rattle.sources.specs.declared.kind.SourceKind.{SourceKind}
 use Rattle.sources.specs.declared.kind.SourceKind.TheVariants.{Matrix, Order, Bribes}
+use Rattle.sources.specs.declared.square.Square.{Square}
+use Rattle.sources.specs.declared.matrix.Winner.{Winner}
+use Rattle.sources.specs.declared.order.Upset.{Upset}
+use Rattle.sources.specs.declared.pairing.Pairing.{Pairing}
 use Rattle.sheets.specs.declared.held.Sources.{Sources}
+
+-- what each of the three means
+abbrev pub matrix_means : Square Winner → Sheet
+matrix_means m = matrix_sheet m.size.entrants m.kept
+
+abbrev pub order_means : Square Upset → Sheet
+order_means o = order_sheet o.size.entrants o.kept
+
+abbrev pub bribes_mean : Square Pairing → Sheet
+bribes_mean f = bribe_sheet f.size.entrants f.kept
 
 -- what the source of a kind means
 abbrev pub sheet_at : SourceKind → Sources → Sheet
-sheet_at Matrix s = matrix_sheet s.matrix.size s.matrix.lower_wins
-sheet_at Order s = order_sheet s.order.size s.order.upsets
-sheet_at Bribes s = bribe_sheet s.bribes.size s.bribes.pairings
+sheet_at Matrix s = matrix_means s.matrix
+sheet_at Order s = order_means s.order
+sheet_at Bribes s = bribes_mean s.bribes
 
 -- the other two are as they were
 abbrev pub OthersKept : SourceKind → Sources → Sources → Type 0

@@ -3,6 +3,7 @@ pub mod Bytes
 pub mod Places
 pub mod Contents
 pub mod Holdings
+pub mod Drafts
 pub mod Judging
 pub mod Scanning
 pub mod Machine

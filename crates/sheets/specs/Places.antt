@@ -1,6 +1,6 @@
 -- Where rows stand. The place of winner w and loser l is 16 w + l, so that rising places rise by winner, then by loser.
-use Rattle.std.specs.Prelude.{ℕ, ◌-◌, ◌/◌, ◌%◌, Bool, ◌&&◌, List, [], ◌∷◌, Some, None, filter, Option, nat_lt}
-use Rattle.std.specs.List.{range_with_len}
+use Rattle.std.specs.Prelude.{ℕ, ◌-◌, ◌/◌, ◌%◌, Bool, ◌&&◌, Option, nat_lt}
+use Rattle.std.specs.List.{range_with_len, find}
 use Rattle.facts.specs.Fields.{opponents}
 use Rattle.sources.specs.declared.kind.SourceKind.{SourceKind}
 use Rattle.sources.specs.declared.kind.SourceKind.TheVariants.{Matrix, Order, Bribes}
@@ -12,10 +12,6 @@ has_row Matrix n p = opponents n (p / 16) (p % 16) && nat_lt (p / 16) (p % 16)
 has_row Order n p = opponents n (p / 16) (p % 16) && nat_lt (p % 16) (p / 16)
 has_row Bribes n p = opponents n (p / 16) (p % 16)
 
-abbrev pub first_of : {X : Type 0} → List X → Option X
-first_of [] = None
-first_of (x ∷ xs) = Some x
-
 -- the first place from here on that can have a row
 abbrev pub next_row : SourceKind → ℕ → ℕ → Option ℕ
-next_row k n from = first_of (filter (has_row k n) (range_with_len from (256 - from)))
+next_row k n from = find (has_row k n) (range_with_len from (256 - from))

@@ -36,19 +36,18 @@ awaited_from Matrix s from = outcome_at (next_row Matrix s.size from)
 awaited_from Order s from = Upset from
 awaited_from Bribes s from = price_at s (next_row Bribes s.size from)
 
+-- a sheet of a kind, read as far as a place
+abbrev pub after : SourceKind → Sheet → ℕ → Progress
+after k s from = record { awaited = awaited_from k s from; kind = k; sheet = s }
+
 -- before the first word
 abbrev pub opening : Progress
 opening = record { awaited = Head; kind = Matrix; sheet = plain_sheet Matrix 2 }
 
 -- the progress that a word adds
 abbrev pub advanced : Progress → Said → Progress
-advanced p (field n k) = record { awaited = awaited_from k (plain_sheet k n) 0; kind = k; sheet = plain_sheet k n }
-advanced p (row a b facts) =
-    record {
-      awaited = awaited_from p.kind (amended p.sheet a b facts) (a * 16 + b + 1);
-      kind = p.kind;
-      sheet = amended p.sheet a b facts;
-    }
+advanced p (field n k) = after k (plain_sheet k n) 0
+advanced p (row a b facts) = after p.kind (amended p.sheet a b facts) (a * 16 + b + 1)
 
 abbrev pub advanced_by : Progress → Result Said Refusal → Result Progress Refusal
 advanced_by p (Ok said) = Ok (advanced p said)
@@ -65,6 +64,11 @@ complete (Outcome lower higher) = false
 complete (Upset from) = true
 complete (Price winner loser other) = false
 complete Nothing = true
+
+-- an answer with the index of the word at which it is refused, if it is
+abbrev pub placed : {T : Type 0} → ℕ → Result T Refusal → Result T Misread
+placed i (Ok x) = Ok x
+placed i (Err e) = Err (record { refusal = e; word = i })
 
 -- all words, the first of them having the index i: the progress after them, or the first refusal with the index of its word
 abbrev pub scanned : Progress → List Word → ℕ → Result Progress Misread

@@ -1,10 +1,6 @@
-// One match source of each kind, as a reader is shown them.
-ghost use Rattle.std.specs.Prelude.{◌≡◌, Some, None};
-ghost use Rattle.facts.specs.Sheets.{SameSheet, amended};
-ghost use Rattle.facts.specs.Amendments.{refusal_of};
-ghost use Rattle.facts.specs.declared.refusals.Refusal.{Refusal};
-ghost use Rattle.sources.specs.Answers.{decided};
-ghost use Rattle.sheets.specs.Holdings.{sheet_at, plain_sheet, AllPlain};
+// One match source of each kind, as a reader is shown them (a rule of this project).
+ghost use Rattle.std.specs.Prelude.{◌≡◌};
+ghost use Rattle.sheets.specs.Holdings.{sheet_at, AllPlain};
 
 use facts::prices::Fact;
 use facts::refusals::Refusal;
@@ -21,6 +17,8 @@ pub struct Sources {
     pub bribes: BribeFile,
 }
 
+// `size` and `pairing` match on the kind: the kinds are a closed enum and the reader is shown one source
+// of each, and no function here may hand out a `dyn MatchSource`.
 impl Sources {
     // A matrix in which lower numbers win, an order without upsets, and a bribe file in which all is free.
     pub fn plain(size: usize) -> Result<Sources, Refusal>
@@ -53,23 +51,6 @@ impl Sources {
             SourceKind::Matrix => self.matrix.pairing(a, b),
             SourceKind::Order => self.order.pairing(a, b),
             SourceKind::Bribes => self.bribes.pairing(a, b),
-        }
-    }
-
-    pub(crate) fn amend(
-        &mut self,
-        kind: SourceKind,
-        a: usize,
-        b: usize,
-        facts: (Fact, Fact),
-    ) -> Result<(), Refusal>
-        ensures answer { result ≡ decided (refusal_of (sheet_at kind self.old) a b facts) }
-        ensures accepted { refusal_of (sheet_at kind self.old) a b facts ≡ None → SameSheet (sheet_at kind self.new) (amended (sheet_at kind self.old) a b facts) }
-    {
-        match kind {
-            SourceKind::Matrix => self.matrix.amend(a, b, facts),
-            SourceKind::Order => self.order.amend(a, b, facts),
-            SourceKind::Bribes => self.bribes.amend(a, b, facts),
         }
     }
 }

@@ -1,6 +1,7 @@
 // Sheets: the words in which a region sends its facts, read into match sources and written from them.
 #![tactic(auto)]
 
+mod draft;
 pub mod held;
 pub mod misread;
 pub mod reader;

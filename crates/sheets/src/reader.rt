@@ -1,102 +1,91 @@
 // Reads a sheet into the source of its kind.
-ghost use Rattle.std.specs.Prelude.{◌≡◌, ℕ, ◌+◌, ◌*◌, ◌<◌, ◌≤◌, true, map, length, None, Ok, Err};
-ghost use Rattle.facts.specs.Fields.{legal};
+ghost use Rattle.std.specs.Prelude.{◌≡◌, ℕ, ◌<◌, ◌∷◌, map, None, Ok};
 ghost use Rattle.facts.specs.Amendments.{refusal_of};
 ghost use Rattle.facts.specs.Sheets.{Sheet, SameSheet};
 ghost use Rattle.sources.specs.declared.kind.SourceKind.{SourceKind};
-ghost use Rattle.sheets.specs.Bytes.{word_at, words_of};
-ghost use Rattle.sheets.specs.Words.{word_of};
 ghost use Rattle.sheets.specs.Holdings.{sheet_at};
 ghost use Rattle.sheets.specs.Contents.{Says};
-ghost use Rattle.sheets.specs.Scanning.{awaited_from, opening, advanced, stepped, complete, scanned};
-ghost use Rattle.sheets.specs.Machine.{progress_of, Ready, Moved, Ended};
-ghost use Rattle.sheets.specs.declared.rows.Said.TheVariants.{Head as field, Row as row};
+ghost use Rattle.sheets.specs.Scanning.{opening, advanced, stepped, scanned};
+ghost use Rattle.sheets.specs.Machine.{progress_of, word_from, Opened, Moved, Finished, Ended};
+ghost use Rattle.sheets.specs.declared.rows.Said.TheVariants.{Row as row};
 ghost use Rattle.sheets.specs.Reading.{read_of, answer_of, Left};
 
+use crate::draft::Draft;
 use crate::held::Sources;
-use crate::misread::Misread;
-use crate::rows::{Awaited, Said, judge, next_row};
+use crate::misread::{Misread, at_word};
+use crate::rows::{Awaited, Said, entrants_at, judge, next_row, place_of};
 use crate::words::{Word, word_of};
 use facts::prices::Fact;
 use facts::refusals::Refusal;
 use sources::kind::SourceKind;
+use sources::source::MatchSource;
 
-// What is read so far stands aside, in sources of the reader's own.
+// A sheet whose head is read, and its rows before some place. What they say stands aside in a draft.
 #[derive(Drop)]
 struct Reader {
-    awaited: Awaited,
-    kind: SourceKind,
-    drafts: Sources,
-}
-
-// What is awaited from a place on.
-fn awaited_from(kind: SourceKind, drafts: &Sources, from: usize) -> Awaited
-    ensures { result ≡ awaited_from kind (sheet_at kind drafts.now) from }
-{
-    let size = drafts.size(kind);
-    match kind {
-        SourceKind::Order => Awaited::Upset { from },
-        SourceKind::Matrix => match next_row(kind, size, from) {
-            Some(place) => Awaited::Outcome {
-                lower: place / 16,
-                higher: place % 16,
-            },
-            None => Awaited::Nothing,
-        },
-        SourceKind::Bribes => match next_row(kind, size, from) {
-            Some(place) => {
-                let (winner, loser) = (place / 16, place % 16);
-                let (_, other) = drafts.pairing(kind, winner, loser);
-                Awaited::Price {
-                    winner,
-                    loser,
-                    other,
-                }
-            }
-            None => Awaited::Nothing,
-        },
-    }
+    draft: Draft,
+    // the next row stands here or behind
+    from: usize,
 }
 
 impl Reader {
-    fn new() -> Reader
-        ensures { progress_of result ≡ opening }
+    fn open(head: Word) -> Result<Reader, Refusal>
+        ensures { Opened (stepped opening head) result }
     {
-        // any legal size will do until the head names one
-        let drafts = Sources::plain(2).unwrap();
-        Reader {
-            awaited: Awaited::Head,
-            kind: SourceKind::Matrix,
-            drafts,
+        // no size is known before the head, and none is asked for
+        match judge(0, Awaited::Head, head)? {
+            Said::Head { size, kind } => Ok(Reader {
+                draft: Draft::plain(kind, size)?,
+                from: 0,
+            }),
+            Said::Row { .. } => unreachable!(),
         }
     }
 
-    fn open(&mut self, size: usize, kind: SourceKind) -> Result<(), Refusal>
-        requires { legal size ≡ true }
-        ensures { Moved (Ok (advanced opening (field size kind))) result self.new }
+    // The three kinds are told apart since each awaits another row.
+    fn awaited(&self) -> Awaited
+        ensures { result ≡ (progress_of self.now).awaited }
     {
-        self.drafts = Sources::plain(size)?;
-        self.kind = kind;
-        self.awaited = awaited_from(kind, &self.drafts, 0);
-        Ok(())
+        match &self.draft {
+            Draft::Order(_) => Awaited::Upset { from: self.from },
+            Draft::Matrix(matrix) => match next_row(SourceKind::Matrix, matrix.size(), self.from) {
+                Some(place) => {
+                    let (lower, higher) = entrants_at(place);
+                    Awaited::Outcome { lower, higher }
+                }
+                None => Awaited::Nothing,
+            },
+            Draft::Bribes(bribes) => match next_row(SourceKind::Bribes, bribes.size(), self.from) {
+                Some(place) => {
+                    let (winner, loser) = entrants_at(place);
+                    let (_, other) = bribes.pairing(winner, loser);
+                    Awaited::Price {
+                        winner,
+                        loser,
+                        other,
+                    }
+                }
+                None => Awaited::Nothing,
+            },
+        }
     }
 
     fn put(&mut self, first: usize, second: usize, facts: (Fact, Fact)) -> Result<(), Refusal>
-        requires { (refusal_of (progress_of self.old).sheet first second facts ≡ None) × ((first < 16) × (second < 16)) }
+        requires is_not_refused { refusal_of (progress_of self.old).sheet first second facts ≡ None }
+        requires first_is_an_entrant { first < 16 }
+        requires second_is_an_entrant { second < 16 }
         ensures { Moved (Ok (advanced (progress_of self.old) (row first second facts))) result self.new }
     {
-        self.drafts.amend(self.kind, first, second, facts)?;
-        self.awaited = awaited_from(self.kind, &self.drafts, first * 16 + second + 1);
+        self.draft.amend(first, second, facts)?;
+        self.from = place_of(first, second) + 1;
         Ok(())
     }
 
     fn step(&mut self, word: Word) -> Result<(), Refusal>
-        requires { Ready (progress_of self.old) }
         ensures { Moved (stepped (progress_of self.old) word) result self.new }
     {
-        let size = self.drafts.size(self.kind);
-        match judge(size, self.awaited, word)? {
-            Said::Head { size, kind } => self.open(size, kind),
+        match judge(self.draft.size(), self.awaited(), word)? {
+            Said::Head { .. } => unreachable!(),
             Said::Row {
                 first,
                 second,
@@ -105,73 +94,46 @@ impl Reader {
         }
     }
 
-    fn is_complete(&self) -> bool
-        ensures { result ≡ complete self.now.awaited }
+    // The draft, where the words may end.
+    fn finish(self) -> Result<Draft, Refusal>
+        ensures { Finished (progress_of self) result }
     {
-        match self.awaited {
-            Awaited::Upset { .. } | Awaited::Nothing => true,
-            _ => false,
+        if matches!(self.awaited(), Awaited::Upset { .. } | Awaited::Nothing) {
+            Ok(self.draft)
+        } else {
+            Err(Refusal::WordCountWrong)
         }
     }
 }
 
-fn word_at(bytes: &[u8], index: usize) -> u32
-    requires { 4 * index + 3 < length bytes.now }
-    ensures { result ≡ word_at bytes.now index }
+fn word_from(bytes: &[u8; 4]) -> Word
+    ensures { result ≡ word_from bytes.now }
 {
-    let start = 4 * index;
-    u32::from_le_bytes([
-        bytes[start],
-        bytes[start + 1],
-        bytes[start + 2],
-        bytes[start + 3],
-    ])
+    word_of(u32::from_le_bytes(*bytes))
 }
 
-fn scan(bytes: &[u8]) -> Result<Reader, Misread>
-    ensures { Ended (scanned opening (map word_of (words_of bytes.now)) 0) result }
+fn scan(head: &[u8; 4], rows: &[[u8; 4]]) -> Result<Draft, Misread>
+    ensures { Ended (scanned opening (map word_from (head.now ∷ rows.now)) 0) result }
 {
-    let mut reader = Reader::new();
-    let count = bytes.len() / 4;
-    for index in 0..count {
-        if let Err(refusal) = reader.step(word_of(word_at(bytes, index))) {
-            return Err(Misread {
-                refusal,
-                word: index,
-            });
-        }
+    let mut reader = at_word(0, Reader::open(word_from(head)))?;
+    for (index, row) in rows.iter().enumerate() {
+        at_word(index + 1, reader.step(word_from(row)))?;
     }
-    if !reader.is_complete() {
-        return Err(Misread {
-            refusal: Refusal::WordCountWrong,
-            word: count,
-        });
-    }
-    Ok(reader)
+    at_word(rows.len() + 1, reader.finish())
 }
 
+// Reads as `read` does. What that comes to is promised there; here, how it is found.
 fn take_in(bytes: &[u8], sources: &mut Sources) -> Result<SourceKind, Misread>
     ensures answer { result ≡ answer_of (read_of bytes.now) }
     ensures left { Left (read_of bytes.now) sources.old sources.new }
 {
-    if bytes.is_empty() || bytes.len() % 4 != 0 {
+    let ([head, rows @ ..], []) = bytes.as_chunks::<4>() else {
         return Err(Misread {
             refusal: Refusal::LengthNotWords,
             word: 0,
         });
-    }
-    let Reader { kind, drafts, .. } = scan(bytes)?;
-    let Sources {
-        matrix,
-        order,
-        bribes,
-    } = drafts;
-    match kind {
-        SourceKind::Matrix => sources.matrix = matrix,
-        SourceKind::Order => sources.order = order,
-        SourceKind::Bribes => sources.bribes = bribes,
-    }
-    Ok(kind)
+    };
+    Ok(scan(head, rows)?.put_into(sources))
 }
 
 // Reads a sheet into the source of its kind, and answers which that is; a refused sheet changes none.

@@ -1,11 +1,11 @@
 // The rows of a sheet: which pairings they tell of, in which order, and what is wrong with one.
-ghost use Rattle.std.specs.Prelude.{◌≡◌, ◌<◌, ◌≤◌};
+ghost use Rattle.std.specs.Prelude.{◌≡◌, ◌+◌, ◌*◌, ◌/◌, ◌%◌, ◌<◌, ◌≤◌};
 ghost use Rattle.sheets.specs.Places.{has_row, next_row};
-ghost use Rattle.sheets.specs.Judging.{judged, read_fact};
+ghost use Rattle.sheets.specs.Judging.{judged};
 
 use crate::words::Word;
 use facts::fields::{are_opponents, is_legal_size};
-use facts::prices::{Fact, TOP_PRICE, is_free};
+use facts::prices::{Fact, is_free, is_over_top};
 use facts::refusals::Refusal;
 use sources::kind::SourceKind;
 use sources::place::PLACES;
@@ -45,13 +45,29 @@ pub(crate) enum Said {
     },
 }
 
-// Whether a sheet of this kind can have a row at this place: winner and loser are its quotient and
-// remainder by sixteen, so that rising places rise by winner, then by loser.
+// Where the row of a winner and a loser stands. A row's place is one number, and no pair, so that
+// rising places rise by winner, then by loser. Entrants are numbers, so that it asks that they are
+// below sixteen.
+pub(crate) fn place_of(winner: usize, loser: usize) -> usize
+    requires winner_is_an_entrant { winner < 16 }
+    requires loser_is_an_entrant { loser < 16 }
+    ensures { result ≡ winner * 16 + loser }
+{
+    winner * 16 + loser
+}
+
+// The winner and the loser of the row at a place. The place stays one number here too.
+pub(crate) fn entrants_at(place: usize) -> (usize, usize)
+    ensures { result ≡ (place / 16, place % 16) }
+{
+    (place / 16, place % 16)
+}
+
+// Whether a sheet of this kind can have a row at this place: of the three kinds each has its own.
 pub(crate) fn has_row(kind: SourceKind, size: usize, place: usize) -> bool
     ensures { result ≡ has_row kind size place }
 {
-    let winner = place / 16;
-    let loser = place % 16;
+    let (winner, loser) = entrants_at(place);
     match kind {
         SourceKind::Matrix => are_opponents(size, winner, loser) && winner < loser,
         SourceKind::Order => are_opponents(size, winner, loser) && loser < winner,
@@ -62,21 +78,11 @@ pub(crate) fn has_row(kind: SourceKind, size: usize, place: usize) -> bool
 pub(crate) fn next_row(kind: SourceKind, size: usize, from: usize) -> Option<usize>
     ensures { result ≡ next_row kind size from }
 {
-    for place in from..PLACES {
-        if has_row(kind, size, place) {
-            return Some(place);
-        }
-    }
-    None
+    (from..PLACES).find(|place| has_row(kind, size, *place))
 }
 
-fn read_fact(price: u32, never: bool) -> Fact
-    ensures { result ≡ read_fact price never }
-{
-    if never { None } else { Some(price) }
-}
-
-// What a word says where this is awaited, or what is wrong with it.
+// What a word says where this is awaited, or what is wrong with it: one `match` on both, with guards
+// (a rule of this project), and so as long as there are cases.
 pub(crate) fn judge(size: usize, awaited: Awaited, word: Word) -> Result<Said, Refusal>
     requires { size ≤ 16 }
     ensures { result ≡ judged size awaited word }
@@ -85,19 +91,10 @@ pub(crate) fn judge(size: usize, awaited: Awaited, word: Word) -> Result<Said, R
         (Awaited::Head, Word::Head { size, .. }) if !is_legal_size(size) => Err(
             Refusal::SizeNotAllowed,
         ),
-        (Awaited::Head, Word::Head { size, source }) if source == 0 => Ok(Said::Head {
+        (Awaited::Head, Word::Head { size, source }) => Ok(Said::Head {
             size,
-            kind: SourceKind::Matrix,
+            kind: SourceKind::try_from(source)?,
         }),
-        (Awaited::Head, Word::Head { size, source }) if source == 1 => Ok(Said::Head {
-            size,
-            kind: SourceKind::Order,
-        }),
-        (Awaited::Head, Word::Head { size, source }) if source == 2 => Ok(Said::Head {
-            size,
-            kind: SourceKind::Bribes,
-        }),
-        (Awaited::Head, Word::Head { .. }) => Err(Refusal::SourceUnknown),
         (Awaited::Head, _) => Err(Refusal::NotAHead),
         (Awaited::Nothing, _) => Err(Refusal::WordCountWrong),
         (Awaited::Outcome { .. }, Word::Outcome { winner, loser })
@@ -122,7 +119,7 @@ pub(crate) fn judge(size: usize, awaited: Awaited, word: Word) -> Result<Said, R
         (Awaited::Upset { .. }, Word::Upset { winner, loser })
             if !are_opponents(size, winner, loser) => Err(Refusal::EntrantsImpossible),
         (Awaited::Upset { from }, Word::Upset { winner, loser })
-            if winner < loser || winner * 16 + loser < from => Err(Refusal::EntrantsNotAwaited),
+            if winner < loser || place_of(winner, loser) < from => Err(Refusal::EntrantsNotAwaited),
         (Awaited::Upset { .. }, Word::Upset { winner, loser }) => Ok(Said::Row {
             first: winner,
             second: loser,
@@ -138,25 +135,33 @@ pub(crate) fn judge(size: usize, awaited: Awaited, word: Word) -> Result<Said, R
             },
             Word::Price { winner, loser, .. },
         ) if winner != first || loser != second => Err(Refusal::EntrantsNotAwaited),
-        (Awaited::Price { .. }, Word::Price { price, never, .. })
-            if price > TOP_PRICE || never && price != 0 => Err(Refusal::PriceNotAllowed),
-        (Awaited::Price { other, .. }, Word::Price { price, never, .. })
-            if !is_free(read_fact(price, never)) && !is_free(other) => Err(
-            Refusal::SecondPriceNotFree,
-        ),
+        (Awaited::Price { .. }, Word::Price { fact: None, .. }) => Err(Refusal::PriceNotAllowed),
+        (
+            Awaited::Price { .. },
+            Word::Price {
+                fact: Some(fact),
+                ..
+            },
+        ) if is_over_top(fact) => Err(Refusal::PriceNotAllowed),
+        (
+            Awaited::Price { other, .. },
+            Word::Price {
+                fact: Some(fact),
+                ..
+            },
+        ) if !is_free(fact) && !is_free(other) => Err(Refusal::SecondPriceNotFree),
         (
             Awaited::Price { other, .. },
             Word::Price {
                 winner,
                 loser,
-                price,
-                never,
+                fact: Some(fact),
             },
         ) => {
             Ok(Said::Row {
                 first: winner,
                 second: loser,
-                facts: (read_fact(price, never), other),
+                facts: (fact, other),
             })
         }
         _ => Err(Refusal::WordNotAwaited),

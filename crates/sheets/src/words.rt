@@ -1,18 +1,21 @@
 // What one word of a sheet says. A word has 32 bits; the top three are its kind.
 ghost use Rattle.std.specs.Prelude.{◌≡◌, ◌<◌};
-ghost use Rattle.sheets.specs.Words.{word_of, bits_of, Fitting};
+ghost use Rattle.sheets.specs.Words.{fact_of, word_of, bits_of, Fitting};
+
+use facts::prices::Fact;
 
 #[derive(Clone, Copy)]
 pub(crate) enum Word {
     Head {
         size: usize,
+        // the number as it was read: a wrong size is refused before a wrong source
         source: u8,
     },
+    // no fact where the mark of a win that no price buys stands beside a price
     Price {
         winner: usize,
         loser: usize,
-        price: u32,
-        never: bool,
+        fact: Option<Fact>,
     },
     Upset {
         winner: usize,
@@ -26,6 +29,16 @@ pub(crate) enum Word {
     Stray,
 }
 
+fn fact_of(price: u32, never: bool) -> Option<Fact>
+    ensures { result ≡ fact_of price never }
+{
+    match (price, never) {
+        (_, false) => Some(Some(price)),
+        (0, true) => Some(None),
+        _ => None,
+    }
+}
+
 pub(crate) fn word_of(bits: u32) -> Word
     ensures { result ≡ word_of bits }
 {
@@ -37,8 +50,7 @@ pub(crate) fn word_of(bits: u32) -> Word
         3 => Word::Price {
             winner: ((bits >> 24) % 16) as usize,
             loser: ((bits >> 20) % 16) as usize,
-            price: bits % (1 << 20),
-            never: (bits >> 28) % 2 == 1,
+            fact: fact_of(bits % (1 << 20), (bits >> 28) % 2 == 1),
         },
         5 if (bits >> 8) % (1 << 21) == 0 => Word::Upset {
             winner: (bits % 16) as usize,
@@ -61,14 +73,14 @@ pub(crate) fn bits_of(word: Word) -> u32
         Word::Price {
             winner,
             loser,
-            price,
-            never,
+            fact: Some(fact),
         } => {
-            let mark = if never { 1 << 28 } else { 0 };
-            (3 << 29) + mark + ((winner as u32) << 24) + ((loser as u32) << 20) + price
+            let told = fact.unwrap_or(1 << 28);
+            (3 << 29) + ((winner as u32) << 24) + ((loser as u32) << 20) + told
         }
         Word::Upset { winner, loser } => (5 << 29) + ((loser as u32) << 4) + winner as u32,
         Word::Outcome { winner, loser } => (6 << 29) + ((loser as u32) << 4) + winner as u32,
-        Word::Stray => 0,
+        // no sheet has these
+        Word::Price { fact: None, .. } | Word::Stray => 0,
     }
 }

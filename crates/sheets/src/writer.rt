@@ -1,38 +1,21 @@
 // Writes the sheet of a source.
-ghost use Rattle.std.specs.Prelude.{◌≡◌, ℕ, ◌+◌, ◌*◌, ◌<◌, ◌≤◌, [], ◌∷◌, ◌++◌, map, length, take, drop, Ok};
+ghost use Rattle.std.specs.Prelude.{◌≡◌, ℕ, ◌+◌, ◌*◌, ◌<◌, ◌≤◌, [], ◌∷◌, ◌++◌, length, take, drop, Ok};
 ghost use Rattle.sheets.specs.Words.{bits_of};
 ghost use Rattle.sheets.specs.Bytes.{bytes_of};
 ghost use Rattle.sheets.specs.Holdings.{sheet_at};
-ghost use Rattle.sheets.specs.Contents.{content_of, price_word, row_for, row_at, words_of_content, Says};
-ghost use Rattle.sheets.specs.Writing.{bytes_for, row_bytes, behind_head, size_or_refusal, overwritten};
+ghost use Rattle.sheets.specs.Contents.{row_for, row_at, Says};
+ghost use Rattle.sheets.specs.Writing.{bytes_for, told, words_told, size_or_refusal, overwritten};
 
 use crate::held::Sources;
-use crate::rows::has_row;
+use crate::rows::{entrants_at, has_row};
 use crate::words::{Word, bits_of};
 use facts::prices::{Fact, is_free};
 use facts::refusals::Refusal;
 use sources::kind::SourceKind;
 use sources::place::PLACES;
+use std::iter::once;
 
-fn price_word(winner: usize, loser: usize, fact: Fact) -> Word
-    ensures { result ≡ price_word winner loser fact }
-{
-    match fact {
-        Some(price) => Word::Price {
-            winner,
-            loser,
-            price,
-            never: false,
-        },
-        None => Word::Price {
-            winner,
-            loser,
-            price: 0,
-            never: true,
-        },
-    }
-}
-
+// A `match` on the kind, of which there are three for good: each has another row.
 fn row_for(kind: SourceKind, first: usize, second: usize, fact: Fact) -> Option<Word>
     ensures { result ≡ row_for kind first second fact }
 {
@@ -50,31 +33,12 @@ fn row_for(kind: SourceKind, first: usize, second: usize, fact: Fact) -> Option<
             loser: second,
         }),
         SourceKind::Order => None,
-        SourceKind::Bribes => Some(price_word(first, second, fact)),
+        SourceKind::Bribes => Some(Word::Price {
+            winner: first,
+            loser: second,
+            fact: Some(fact),
+        }),
     }
-}
-
-fn row_at(kind: SourceKind, sources: &Sources, place: usize) -> Option<Word>
-    ensures { result ≡ row_at kind (sheet_at kind sources.now).size (sheet_at kind sources.now).beats place }
-{
-    if !has_row(kind, sources.size(kind), place) {
-        return None;
-    }
-    let (first, second) = (place / 16, place % 16);
-    let (fact, _) = sources.pairing(kind, first, second);
-    row_for(kind, first, second, fact)
-}
-
-fn count_words(kind: SourceKind, sources: &Sources) -> usize
-    ensures { (result ≡ length (words_of_content (content_of kind (sheet_at kind sources.now)))) × (result ≤ 257) }
-{
-    let mut count = 1;
-    for place in 0..PLACES {
-        if row_at(kind, sources, place).is_some() {
-            count += 1;
-        }
-    }
-    count
 }
 
 fn put_word(buffer: &mut [u8], start: usize, bits: u32)
@@ -84,30 +48,47 @@ fn put_word(buffer: &mut [u8], start: usize, bits: u32)
     buffer[start..start + 4].copy_from_slice(&bits.to_le_bytes());
 }
 
-// Puts the rows behind the place of the head.
-fn put_rows(kind: SourceKind, sources: &Sources, buffer: &mut [u8])
-    requires { length (bytes_for kind (sheet_at kind sources.now)) ≤ length buffer.old }
-    ensures { buffer.new ≡ behind_head (row_bytes kind (sheet_at kind sources.now)) buffer.old }
-{
-    let mut end = 4;
-    for place in 0..PLACES {
-        if let Some(word) = row_at(kind, sources, place) {
-            put_word(buffer, end, bits_of(word));
-            end += 4;
-        }
-    }
+// The source of a kind, which a sheet is written of. As a reader, a writer is shown one source of each
+// kind (a rule of this project), and the kind says which.
+#[derive(Drop)]
+struct Writer<'a> {
+    kind: SourceKind,
+    sources: &'a Sources,
 }
 
-fn put_sheet(kind: SourceKind, sources: &Sources, buffer: &mut [u8])
-    requires { length (bytes_for kind (sheet_at kind sources.now)) ≤ length buffer.old }
-    ensures { buffer.new ≡ bytes_for kind (sheet_at kind sources.now) ++ drop (length (bytes_for kind (sheet_at kind sources.now))) buffer.old }
-{
-    let head = Word::Head {
-        size: sources.size(kind),
-        source: kind.number(),
-    };
-    put_word(buffer, 0, bits_of(head));
-    put_rows(kind, sources, buffer);
+impl Writer<'_> {
+    fn row_at(&self, place: usize) -> Option<Word>
+        ensures { result ≡ row_at self.now.kind (told self.now).size (told self.now).beats place }
+    {
+        if !has_row(self.kind, self.sources.size(self.kind), place) {
+            return None;
+        }
+        let (first, second) = entrants_at(place);
+        let (fact, _) = self.sources.pairing(self.kind, first, second);
+        row_for(self.kind, first, second, fact)
+    }
+
+    fn count_words(&self) -> usize
+        ensures { result ≡ length (words_told self.now) }
+    {
+        1 + (0..PLACES).filter_map(|place| self.row_at(place)).count()
+    }
+
+    // Puts the head and the rows behind it into the front of the buffer, each at its index: after
+    // `chunks_exact_mut` it would not be known what the buffer is.
+    fn put_sheet(&self, buffer: &mut [u8])
+        requires { length (bytes_for self.now.kind (told self.now)) ≤ length buffer.old }
+        ensures { buffer.new ≡ bytes_for self.now.kind (told self.now) ++ drop (length (bytes_for self.now.kind (told self.now))) buffer.old }
+    {
+        let head = Word::Head {
+            size: self.sources.size(self.kind),
+            source: self.kind.number(),
+        };
+        let rows = (0..PLACES).filter_map(|place| self.row_at(place));
+        for (index, word) in once(head).chain(rows).enumerate() {
+            put_word(buffer, 4 * index, bits_of(word));
+        }
+    }
 }
 
 // Writes the sheet of the source of a kind into the front of the buffer, and answers how many bytes that are.
@@ -116,10 +97,11 @@ pub fn write(kind: SourceKind, sources: &Sources, buffer: &mut [u8]) -> Result<u
     ensures answers_the_size_or_too_short { result ≡ size_or_refusal (bytes_for kind (sheet_at kind sources.now)) buffer.old }
     ensures writes_the_front_alone_or_nothing { buffer.new ≡ overwritten (bytes_for kind (sheet_at kind sources.now)) buffer.old }
 {
-    let size = 4 * count_words(kind, sources);
+    let writer = Writer { kind, sources };
+    let size = 4 * writer.count_words();
     if buffer.len() < size {
         return Err(Refusal::MemoryTooShort);
     }
-    put_sheet(kind, sources, buffer);
+    writer.put_sheet(buffer);
     Ok(size)
 }

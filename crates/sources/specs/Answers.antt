@@ -1,14 +1,9 @@
 -- How a call that may be refused answers.
-use Rattle.std.specs.Prelude.{◌≡◌, ℕ, true, false, Some, None, Ok, Err, Option, Result}
+use Rattle.std.specs.Prelude.{◌≡◌, ℕ, true, false, Ok, Err, Result}
 use Rattle.facts.specs.declared.refusals.Refusal.{Refusal}
 use Rattle.facts.specs.declared.refusals.Refusal.TheVariants.{SizeNotAllowed}
 use Rattle.facts.specs.Fields.{legal}
 use Rattle.facts.specs.Sheets.{Sheet, SameSheet}
-
--- the answer where the first refusal that applies is the one given, if any
-abbrev pub decided : Option Refusal → Result (Unit {0}) Refusal
-decided None = Ok tt
-decided (Some e) = Err e
 
 -- a new source of n entrants that means a given sheet, or the refusal of a size that no knockout has
 abbrev pub Opened : {S : Type 0} → (S → Sheet) → ℕ → Sheet → Result S Refusal → Type 0

@@ -1,9 +1,9 @@
 -- The bribe file: any pairing with a free side.
-use Rattle.std.specs.Prelude.{ℕ, List, map, Some, Option}
+use Rattle.std.specs.Prelude.{ℕ, List, Some, Option}
 use Rattle.facts.specs.Facts.{one_free}
 use Rattle.facts.specs.Sheets.{Sheet}
 use Rattle.sources.specs.declared.pairing.Pairing.{Pairing}
-use Rattle.sources.specs.Held.{held_sheet, uniform_sheet}
+use Rattle.sources.specs.Held.{square_sheet, uniform_sheet}
 
 -- the facts that a pairing keeps
 abbrev pub told : Pairing → Option ℕ × Option ℕ
@@ -11,7 +11,7 @@ told p = (p.lower, p.higher)
 
 -- what a bribe file of n entrants means, by the pairing at each place
 abbrev pub bribe_sheet : ℕ → List Pairing → Sheet
-bribe_sheet n pairings = held_sheet (λ a b. one_free) n (map told pairings)
+bribe_sheet n pairings = square_sheet told (λ a b. one_free) n pairings
 
 -- the sheet of n entrants on which every win is free
 abbrev pub all_free : ℕ → Sheet

@@ -1,5 +1,5 @@
 -- A sheet as it is held: one pair of facts for each two entrants, at the place of their numbers.
-use Rattle.std.specs.Prelude.{ℕ, ◌+◌, ◌*◌, min, max, Bool, cond, List, None, Option, nat_lt, slice_index_or}
+use Rattle.std.specs.Prelude.{ℕ, ◌+◌, ◌*◌, min, max, Bool, cond, List, map, None, Option, nat_lt, slice_index_or}
 use Rattle.facts.specs.Fields.{opponents}
 use Rattle.facts.specs.Sheets.{Sheet}
 
@@ -18,6 +18,10 @@ held_sheet carries n held =
       beats = λ a b. cond (opponents n a b) (turned a b (slice_index_or held (place_of a b) (None, None))).0 None;
       carries = carries;
     }
+
+-- what a square of n entrants means, by what is kept at each place and the facts that this tells
+abbrev pub square_sheet : {K : Type 0} → (K → Option ℕ × Option ℕ) → (ℕ → ℕ → Option ℕ → Option ℕ → Bool) → ℕ → List K → Sheet
+square_sheet told carries n kept = held_sheet carries n (map told kept)
 
 -- the sheet on which every two entrants have the same facts, the lower number's first
 abbrev pub uniform_sheet : (ℕ → ℕ → Option ℕ → Option ℕ → Bool) → ℕ → Option ℕ × Option ℕ → Sheet

@@ -10,7 +10,7 @@ use Rattle.facts.specs.Facts.{over_top, one_free}
 use Rattle.facts.specs.Fields.{legal, opponents}
 use Rattle.facts.specs.Sheets.{Sheet, Lawful, SameSheet, amended}
 use Rattle.facts.specs.Amendments.{first_refusal, refusal_of}
-use Rattle.sources.specs.Answers.{decided}
+use Rattle.facts.specs.Outcomes.{decided}
 use Rattle.sources.specs.Pairs.{allowed}
 use Rattle.sources.specs.Held.{place_of, turned, held_sheet, uniform_sheet}
 
@@ -154,14 +154,18 @@ held_lawful carries n held long leg good either =
     top a b true h = ap over_top (cond-true (opponents n a b) _ None h) ∙ (here a b h).1
     top a b false h = ap over_top (cond-false (opponents n a b) _ None h)
 
+-- each pair of a list that a function tells is told of something
+one_of : {X : Type 0} (f : X → Option ℕ × Option ℕ) (xs : List X) (i : ℕ) → i < length xs → (x : X) × (slice_index_or (map f xs) i (None, None) ≡ f x)
+one_of f [] i h = absurd (omega arith)
+one_of f (x ∷ xs) zero h = (x, refl)
+one_of f (x ∷ xs) (suc i) h = one_of f xs i (omega arith)
+
 -- every pair that a function tells is allowed, so each one of a list of them is
 pub each_allowed : {X : Type 0} (f : X → Option ℕ × Option ℕ) → ((x : X) → allowed (f x) ≡ true) → (xs : List X) (i : ℕ) → i < length xs → allowed (slice_index_or (map f xs) i (None, None)) ≡ true
-each_allowed f h [] i p = absurd (omega arith)
-each_allowed f h (x ∷ xs) zero p = h x
-each_allowed f h (x ∷ xs) (suc i) p = each_allowed f h xs i (omega arith)
+each_allowed f h xs i p = let x = one_of f xs i p in ap allowed x.1 ∙ h x.0
 
 no_refusal : (e : Refusal) → Some e ≢ None
-no_refusal e h = let z : ◌≡◌ {A = ℕ} 0 1 = cc in omega arith
+no_refusal e h = cc
 
 -- what is known of an amendment that nothing refuses
 pub accepted : (n a b : ℕ) (facts : Option ℕ × Option ℕ) (carried : Bool) → first_refusal n a b facts carried ≡ None
@@ -172,12 +176,12 @@ accepted n a b facts carried h =
     go : (p q e x y c : Bool) → ◌≡◌ {A = Option Refusal} (cond (not (p && q)) (Some EntrantUnknown) (cond e (Some EntrantsEqual) (cond x (Some PriceAboveTop) (cond (not y) (Some NeitherSideFree) (cond (not c) (Some PairingNotCarried) None))))) None
         → ((p && (q && not e)) ≡ true) × ((y && not x) ≡ true) × (c ≡ true)
     go true true false false true true k = (refl, refl, refl)
-    go true true false false true false k = absurd (no_refusal _ k)
-    go true true false false false c k = absurd (no_refusal _ k)
-    go true true false true y c k = absurd (no_refusal _ k)
-    go true true true x y c k = absurd (no_refusal _ k)
-    go true false e x y c k = absurd (no_refusal _ k)
-    go false q e x y c k = absurd (no_refusal _ k)
+    go true true false false true false k = cc
+    go true true false false false c k = cc
+    go true true false true y c k = cc
+    go true true true x y c k = cc
+    go true false e x y c k = cc
+    go false q e x y c k = cc
 
 -- one write of what tells the pair
 pub told_amended : {X : Type 0} (f : X → Option ℕ × Option ℕ) (carries : ℕ → ℕ → Option ℕ → Option ℕ → Bool) (n : ℕ) (xs : List X) (a b p : ℕ) (facts : Option ℕ × Option ℕ) (x : X)
@@ -236,11 +240,6 @@ told_alike f carries n x facts is leg = record { size = refl; beats = λ a b. go
         let k = place_below a b (omega (arith, t.0)) (omega (arith, t.1)) in
         ap (λ g. cond (opponents n a b) (turned a b g).0 None)
         (get_or-map f (replicate 256 x) (place_of a b) x (None, None) (omega (arith, length-replicate 256 x)) ∙ ap f (get_or-replicate 256 (place_of a b) x x k) ∙ is)
-
-one_of : {X : Type 0} (f : X → Option ℕ × Option ℕ) (xs : List X) (i : ℕ) → i < length xs → (x : X) × (slice_index_or (map f xs) i (None, None) ≡ f x)
-one_of f [] i h = absurd (omega arith)
-one_of f (x ∷ xs) zero h = (x, refl)
-one_of f (x ∷ xs) (suc i) h = one_of f xs i (omega arith)
 
 -- what holds of each pair that a source can tell holds of each pairing of its sheet
 pub told_each : {X : Type 0} (f : X → Option ℕ × Option ℕ) (carries : ℕ → ℕ → Option ℕ → Option ℕ → Bool) (n : ℕ) (xs : List X) (P : Option ℕ × Option ℕ → Type 0) (a b : ℕ)

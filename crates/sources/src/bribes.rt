@@ -1,65 +1,46 @@
 // A bribe file: what it takes for each entrant to beat each other, one side of each pairing free.
-ghost use Rattle.std.specs.Prelude.{◌≡◌, true, length};
-ghost use Rattle.facts.specs.Fields.{legal};
+ghost use Rattle.std.specs.Prelude.{◌≡◌};
+ghost use Rattle.facts.specs.Facts.{one_free};
 ghost use Rattle.sources.specs.Answers.{Opened};
-ghost use Rattle.sources.specs.Bribery.{told, bribe_sheet, all_free};
-ghost use Rattle.sources.specs.Lawfulness.{bribes_lawful};
+ghost use Rattle.sources.specs.Bribery.{told as told_facts, bribe_sheet, all_free};
+ghost use Rattle.sources.specs.Lawfulness.{free_back};
 
+use crate::kept::Kept;
 use crate::pairing::Pairing;
-use crate::place::{place_of, turned_to};
-use crate::source::MatchSource;
-use facts::amendments::first_refusal;
-use facts::fields::{are_opponents, is_legal_size};
-use facts::prices::Fact;
+use crate::place::turned_to;
+use crate::square::Square;
+use facts::prices::{Fact, is_free};
 use facts::refusals::Refusal;
 
-#[derive(Drop)]
-pub struct BribeFile {
-    size: usize,
-    pairings: [Pairing; 256],
-    ghost legal: { legal size ≡ true },
-    ghost whole: { length pairings ≡ 256 },
-}
+pub type BribeFile = Square<Pairing>;
 
 impl BribeFile {
     // A file in which every win is free.
     pub fn all_free(size: usize) -> Result<BribeFile, Refusal>
-        ensures every_win_is_free_or_the_size_is_refused { Opened (λ f. bribe_sheet f.size f.pairings) size (all_free size) result }
+        ensures every_win_is_free_or_the_size_is_refused { Opened (λ f. bribe_sheet f.size.entrants f.kept) size (all_free size) result }
     {
-        if !is_legal_size(size) {
-            return Err(Refusal::SizeNotAllowed);
-        }
-        Ok(BribeFile {
-            size,
-            pairings: [Pairing::new((Some(0), Some(0))); 256],
-        })
+        Square::alike(size, Pairing::new((Some(0), Some(0))))
     }
 }
 
-impl MatchSource for BribeFile {
-    ghost sheet = { λ f. bribe_sheet f.size f.pairings };
+impl Kept for Pairing {
+    ghost told = { told_facts };
 
-    ghost lawful = { λ s. bribes_lawful s.size s.pairings s.whole s.legal };
+    ghost carried = { λ a b. one_free };
 
-    fn size(&self) -> usize {
-        self.size
+    ghost told_allowed = { λ p. p.fair };
+
+    ghost carried_either_way = { λ a b. free_back };
+
+    fn facts(self) -> (Fact, Fact) {
+        (self.lower, self.higher)
     }
 
-    fn pairing(&self, a: usize, b: usize) -> (Fact, Fact) {
-        if !are_opponents(self.size, a, b) {
-            return (None, None);
-        }
-        let kept = self.pairings[place_of(a, b)];
-        turned_to(a, b, (kept.lower, kept.higher))
+    fn carries(_a: usize, _b: usize, facts: (Fact, Fact)) -> bool {
+        is_free(facts.0) || is_free(facts.1)
     }
 
-    fn amend(&mut self, a: usize, b: usize, facts: (Fact, Fact)) -> Result<(), Refusal> {
-        match first_refusal(self.size, a, b, facts, true) {
-            Some(refusal) => Err(refusal),
-            None => {
-                self.pairings[place_of(a, b)] = Pairing::new(turned_to(a, b, facts));
-                Ok(())
-            }
-        }
+    fn of(a: usize, b: usize, facts: (Fact, Fact)) -> Pairing {
+        Pairing::new(turned_to(a, b, facts))
     }
 }

@@ -2,11 +2,13 @@
 #![tactic(auto)]
 
 pub mod bribes;
+mod kept;
 pub mod kind;
 pub mod matrix;
 pub mod order;
-pub mod pairing;
+mod pairing;
 pub mod place;
 pub mod source;
+mod square;
 #[cfg(test)]
 mod tests;

@@ -1,84 +1,59 @@
 // A matrix of results: of each two entrants one wins for certain.
-ghost use Rattle.std.specs.Prelude.{◌≡◌, true, length};
-ghost use Rattle.facts.specs.Fields.{legal};
+ghost use Rattle.std.specs.Prelude.{◌≡◌};
 ghost use Rattle.sources.specs.Answers.{Opened};
 ghost use Rattle.sources.specs.Matrices.{result as result_facts, certain, matrix_sheet, lower_wins_all};
-ghost use Rattle.sources.specs.Lawfulness.{matrix_lawful};
+ghost use Rattle.sources.specs.Lawfulness.{one_wins, certain_back};
 
-use crate::place::{place_of, turned_to};
-use crate::source::MatchSource;
-use facts::amendments::first_refusal;
-use facts::fields::{are_opponents, is_legal_size};
+use crate::kept::Kept;
+use crate::place::turned_to;
+use crate::square::Square;
 use facts::prices::{Fact, is_free};
 use facts::refusals::Refusal;
 
-#[derive(Drop)]
-pub struct ResultMatrix {
-    size: usize,
-    // at the place of two entrants: whether the lower number wins
-    lower_wins: [bool; 256],
-    ghost legal: { legal size ≡ true },
-    ghost whole: { length lower_wins ≡ 256 },
+// Which of two entrants wins.
+#[derive(Clone, Copy, PartialEq, Eq, Debug)]
+pub enum Winner {
+    Lower,
+    Higher,
 }
 
-fn result_of(lower_wins: bool) -> (Fact, Fact)
-    ensures { result ≡ result_facts lower_wins }
-{
-    if lower_wins {
-        (Some(0), None)
-    } else {
-        (None, Some(0))
-    }
-}
-
-fn is_certain(facts: (Fact, Fact)) -> bool
-    ensures { result ≡ certain facts.0 facts.1 }
-{
-    match facts {
-        (Some(price), None) | (None, Some(price)) if price == 0 => true,
-        _ => false,
-    }
-}
+pub type ResultMatrix = Square<Winner>;
 
 impl ResultMatrix {
     // A matrix in which the lower number wins every match.
     pub fn lower_always_wins(size: usize) -> Result<ResultMatrix, Refusal>
-        ensures lower_numbers_win_or_the_size_is_refused { Opened (λ m. matrix_sheet m.size m.lower_wins) size (lower_wins_all size) result }
+        ensures lower_numbers_win_or_the_size_is_refused { Opened (λ m. matrix_sheet m.size.entrants m.kept) size (lower_wins_all size) result }
     {
-        if !is_legal_size(size) {
-            return Err(Refusal::SizeNotAllowed);
-        }
-        Ok(ResultMatrix {
-            size,
-            lower_wins: [true; 256],
-        })
+        Square::alike(size, Winner::Lower)
     }
 }
 
-impl MatchSource for ResultMatrix {
-    ghost sheet = { λ m. matrix_sheet m.size m.lower_wins };
+impl Kept for Winner {
+    ghost told = { result_facts };
 
-    ghost lawful = { λ s. matrix_lawful s.size s.lower_wins s.whole s.legal };
+    ghost carried = { λ a b. certain };
 
-    fn size(&self) -> usize {
-        self.size
-    }
+    ghost told_allowed = { one_wins };
 
-    fn pairing(&self, a: usize, b: usize) -> (Fact, Fact) {
-        if !are_opponents(self.size, a, b) {
-            return (None, None);
+    ghost carried_either_way = { λ a b. certain_back };
+
+    fn facts(self) -> (Fact, Fact) {
+        match self {
+            Winner::Lower => (Some(0), None),
+            Winner::Higher => (None, Some(0)),
         }
-        turned_to(a, b, result_of(self.lower_wins[place_of(a, b)]))
     }
 
-    fn amend(&mut self, a: usize, b: usize, facts: (Fact, Fact)) -> Result<(), Refusal> {
-        match first_refusal(self.size, a, b, facts, is_certain(facts)) {
-            Some(refusal) => Err(refusal),
-            None => {
-                let (lower, _) = turned_to(a, b, facts);
-                self.lower_wins[place_of(a, b)] = is_free(lower);
-                Ok(())
-            }
+    fn carries(_a: usize, _b: usize, facts: (Fact, Fact)) -> bool {
+        matches!(facts, (Some(price), None) | (None, Some(price)) if price == 0)
+    }
+
+    fn of(a: usize, b: usize, facts: (Fact, Fact)) -> Winner {
+        let (lower, _) = turned_to(a, b, facts);
+        if is_free(lower) {
+            Winner::Lower
+        } else {
+            Winner::Higher
         }
     }
 }

@@ -5,7 +5,7 @@ ghost use Rattle.sources.specs.Pairs.{allowed};
 use facts::prices::Fact;
 
 #[derive(Clone, Copy)]
-pub(crate) struct Pairing {
+pub struct Pairing {
     pub(crate) lower: Fact,
     pub(crate) higher: Fact,
     ghost fair: { allowed (lower, higher) ≡ true },

@@ -7,9 +7,11 @@ use facts::prices::Fact;
 
 pub const PLACES: usize = 256;
 
+// One number and no row of rows: of a square within a square, each row's length would have to be
+// stated too. Entrants are numbers, so that it asks that they are below sixteen.
 pub(crate) fn place_of(a: usize, b: usize) -> usize
     requires { (a < 16) × (b < 16) }
-    ensures { (result ≡ place_of a b) × (result < 256) }
+    ensures { (result ≡ place_of a b) × (result < PLACES) }
 {
     a.min(b) * 16 + a.max(b)
 }

@@ -1,8 +1,9 @@
-// The one thing that every match source is: a sheet that can be asked and amended.
+// The one thing that every match source is: a sheet that can be asked and amended. Both entrants and
+// a tuple of both facts are told one by one in every call on a source: a rule of this project.
 ghost use Rattle.std.specs.Prelude.{◌≡◌, Some, None, Ok, Err};
 ghost use Rattle.facts.specs.Sheets.{Sheet, Lawful, SameSheet, amended};
 ghost use Rattle.facts.specs.Amendments.{refusal_of};
-ghost use Rattle.sources.specs.Answers.{decided};
+ghost use Rattle.facts.specs.Outcomes.{decided};
 ghost use Rattle.facts.specs.declared.refusals.Refusal.{Refusal};
 
 use facts::prices::Fact;

@@ -1,5 +1,6 @@
 // Each source at its limits: what it tells, what it takes and what it refuses, in the order of the refusals.
 use crate::bribes::BribeFile;
+use crate::kind::SourceKind;
 use crate::matrix::ResultMatrix;
 use crate::order::StrengthOrder;
 use crate::source::MatchSource;
@@ -28,30 +29,13 @@ fn takes<S: MatchSource>(rt: &impl Abort, source: &mut S, a: usize, b: usize, fa
 }
 
 fn refuses_in_order<S: MatchSource>(rt: &impl Abort, source: &mut S) {
-    refuses(
-        rt,
-        source,
-        4,
-        0,
-        (Some(1_000_001), Some(1)),
-        Refusal::EntrantUnknown,
-    );
-    refuses(
-        rt,
-        source,
-        3,
-        3,
-        (Some(1_000_001), Some(1)),
-        Refusal::EntrantsEqual,
-    );
-    refuses(
-        rt,
-        source,
-        0,
-        1,
-        (Some(1_000_001), Some(1)),
-        Refusal::PriceAboveTop,
-    );
+    for (a, b, why) in [
+        (4, 0, Refusal::EntrantUnknown),
+        (3, 3, Refusal::EntrantsEqual),
+        (0, 1, Refusal::PriceAboveTop),
+    ] {
+        refuses(rt, source, a, b, (Some(1_000_001), Some(1)), why);
+    }
     refuses(rt, source, 0, 1, (Some(1), None), Refusal::NeitherSideFree);
 }
 
@@ -127,4 +111,11 @@ fn only_four_sizes_are_fields(rt: HostRuntime) {
     assert!(rt; ResultMatrix::lower_always_wins(3).is_err());
     assert!(rt; StrengthOrder::without_upsets(0).is_err());
     assert!(rt; BribeFile::all_free(32).is_err());
+}
+
+#[test]
+fn three_numbers_are_kinds(rt: HostRuntime) {
+    assert_eq!(rt; SourceKind::try_from(0), Ok(SourceKind::Matrix));
+    assert_eq!(rt; SourceKind::try_from(2), Ok(SourceKind::Bribes));
+    assert_eq!(rt; SourceKind::try_from(3), Err(Refusal::SourceUnknown));
 }

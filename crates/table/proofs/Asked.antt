@@ -1,8 +1,7 @@
 -- Cells in order answer by figures. Assumes nothing.
-use Rattle.std.proofs.Common.{◌≡◌, ℕ, zero, suc, ◌+◌, ◌^◌, ◌<◌, Bool, true, false, cond, List, sym, refl, ap, ◌∙◌, subst, ap₂, add-one, arith, pow_pos}
+use Rattle.std.proofs.Common.{◌≡◌, ℕ, zero, suc, ◌+◌, ◌^◌, ◌<◌, Bool, true, false, cond, List, sym, ap, ◌∙◌, subst, arith, pow_pos}
 use Rattle.std.specs.List.{range_with_len}
 use Rattle.algebra.specs.Semirings.{Semiring}
-use Rattle.algebra.specs.Possibilities.{possibilities}
 use Rattle.figures.specs.Fields.{Field}
 use Rattle.figures.specs.Figures.{figure}
 use Rattle.figures.specs.Sums.{over}
@@ -10,7 +9,7 @@ use Rattle.figures.proofs.Lists.{counting_in}
 use Rattle.figures.proofs.Sums.{over_same_in}
 use Rattle.cells.specs.Renewal.{cell_of}
 use Rattle.table.specs.Fillings.{InOrder}
-use Rattle.table.specs.Questions.{everybody, tally_of, set_of, winners_of}
+use Rattle.table.specs.Questions.{everybody, tally_of, set_of}
 
 -- the cell of an entrant in the set of all
 pub final_figure : {M : Type 0} (A : Semiring M) (f : Field) (n : ℕ) (cells : List M) → f.size ≡ n → InOrder A f cells
@@ -34,19 +33,3 @@ set_below (suc n) test = go (test n) (set_below n test)
     go : (b : Bool) → set_of n test < 2 ^ n → set_of n test + cond b (2 ^ n) 0 < 2 ^ suc n
     go true h = omega arith
     go false h = omega arith
-
--- one more entrant looked at
-pub set_more : (n : ℕ) (test : ℕ → Bool) → set_of (n + 1) test ≡ set_of n test + cond (test n) (2 ^ n) 0
-set_more n test = ap (λ (k : ℕ). set_of k test) (add-one n)
-
--- tests that agree on the entrants give one set
-pub set_same : (n : ℕ) (p q : ℕ → Bool) → ((w : ℕ) → w < n → p w ≡ q w) → set_of n p ≡ set_of n q
-set_same zero p q h = refl
-set_same (suc n) p q h = ap₂ (λ (x : ℕ) b. x + cond b (2 ^ n) 0) (set_same n p q (λ w l. h w (omega arith))) (h n (omega arith))
-
--- the set of those who can win
-pub final_winners : (f : Field) (n : ℕ) (cells : List Bool) → f.size ≡ n → InOrder possibilities f cells
-    → winners_of n (cell_of possibilities n cells) ≡ winners_of f.size (figure possibilities f)
-final_winners f n cells e p =
-    set_same n (cell_of possibilities n cells (everybody n)) (figure possibilities f (everybody f.size)) (final_figure possibilities f n cells e p)
-    ∙ ap (λ (k : ℕ). set_of k (figure possibilities f (everybody f.size))) (sym e)

@@ -10,10 +10,6 @@ use Rattle.cells.specs.Rooms.{too_short, all_filled}
 abbrev pub open_refusal : ℕ → ℕ → Option Refusal
 open_refusal n count = first_of ((not (legal n), SizeNotAllowed) ∷ too_short n count ∷ [])
 
--- of start, of a whole fill, and of the tally
-abbrev pub room_refusal : ℕ → ℕ → Option Refusal
-room_refusal n count = first_of (too_short n count ∷ [])
-
 abbrev pub fill_refusal : ℕ → ℕ → ℕ → ℕ → Option Refusal
 fill_refusal n level size count = first_of ((not (n == size), SizesDiffer) ∷ too_short n count ∷ all_filled n level ∷ [])
 

@@ -6,7 +6,6 @@ mod clearing;
 pub mod filling;
 pub mod opening;
 pub mod questions;
-mod room;
 mod singles;
 pub mod stages;
 #[cfg(test)]

@@ -12,6 +12,7 @@ use algebra::draws::Draws;
 use algebra::possibility::Possibility;
 use cells::container::Cells;
 use facts::refusals::Refusal;
+use facts::refused::Refused;
 use sources::bribes::BribeFile;
 use sources::matrix::ResultMatrix;
 use sources::order::StrengthOrder;
@@ -143,56 +144,39 @@ fn eight_entrants_need_2048_cells(rt: HostRuntime) -> Result<(), Fail> {
     let order = StrengthOrder::without_upsets(8)?;
     let mut short = [Draws::nothing(); 2_047];
     let refused = fill_afresh(&order, &mut Cells::over(&mut short));
-    assert_eq!(rt; refusal_of(refused), Some(Refusal::MemoryTooShort));
+    assert_eq!(rt; refused.err(), Some(Refusal::MemoryTooShort));
     let mut memory = [Draws::nothing(); 2_048];
     let mut cells = Cells::over(&mut memory);
     let table = fill_afresh(&order, &mut cells)?;
     assert_eq!(rt; table.figure(&mut cells, 0)?.count(), 315);
     assert_eq!(rt; table.tally(&mut cells)?.count(), 315);
     assert_eq!(rt;
-        refusal_of(table.figure(&mut cells, 8)),
+        table.figure(&mut cells, 8).err(),
         Some(Refusal::EntrantUnknown)
     );
     let mut short = Cells::over(&mut short);
     assert_eq!(rt;
-        refusal_of(table.figure(&mut short, 8)),
+        table.figure(&mut short, 8).err(),
         Some(Refusal::MemoryTooShort)
     );
     assert_eq!(rt;
-        refusal_of(table.tally(&mut short)),
+        table.tally(&mut short).err(),
         Some(Refusal::MemoryTooShort)
     );
     Ok(())
 }
 
-fn refusal_of<X: Drop>(answer: Result<X, Refusal>) -> Option<Refusal> {
-    match answer {
-        Ok(_) => None,
-        Err(refusal) => Some(refusal),
-    }
-}
-
-// What a stage moved to, or why it did not move.
-fn moved<X, Y: Drop>(answer: Result<X, (Y, Refusal)>) -> Result<X, Refusal> {
-    match answer {
-        Ok(next) => Ok(next),
-        Err(refused) => Err(refused.1),
-    }
-}
-
 // The stage that came back, once the refusal is the one expected.
 fn refused<X: Drop, Y: Drop>(
     rt: &impl Abort,
-    answer: Result<X, (Y, Refusal)>,
+    answer: Result<X, Refused<Y>>,
     why: Refusal,
 ) -> Result<Y, Fail> {
-    match answer {
-        Ok(_) => Err(Fail::new("it moved on")),
-        Err(refused) => {
-            assert_eq!(rt; refused.1, why);
-            Ok(refused.0)
-        }
-    }
+    let Err(refused) = answer else {
+        return Err(Fail::new("it moved on"));
+    };
+    assert_eq!(rt; refused.refusal, why);
+    Ok(refused.moved)
 }
 
 #[test]
@@ -205,13 +189,13 @@ fn a_refused_stage_comes_back_and_goes_on(rt: HostRuntime) -> Result<(), Fail> {
     let four = ResultMatrix::lower_always_wins(4)?;
     let empty = Empty::open(2, &mut cells)?;
     let empty = refused(&rt, empty.start(&mut short), Refusal::MemoryTooShort)?;
-    let stage = moved(empty.start(&mut cells))?;
+    let stage = empty.start(&mut cells)?;
     let stage = refused(&rt, stage.finish(), Refusal::LevelMissing)?;
     let stage = refused(&rt, stage.fill(&four, &mut short), Refusal::SizesDiffer)?;
     let stage = refused(&rt, stage.fill(&two, &mut short), Refusal::MemoryTooShort)?;
-    let stage = moved(stage.fill(&two, &mut cells))?;
+    let stage = stage.fill(&two, &mut cells)?;
     let stage = refused(&rt, stage.fill(&two, &mut cells), Refusal::LevelsAllFilled)?;
-    let table = moved(stage.finish())?;
+    let table = stage.finish()?;
     assert_eq!(rt; table.figure(&mut cells, 0)?.count(), 1);
     Ok(())
 }
@@ -220,11 +204,11 @@ fn a_refused_stage_comes_back_and_goes_on(rt: HostRuntime) -> Result<(), Fail> {
 fn a_table_opens_for_legal_sizes_only(rt: HostRuntime) {
     let mut memory = [Bribe::one(); 9];
     assert_eq!(rt;
-        refusal_of(Empty::open(3, &mut Cells::over(&mut memory))),
+        Empty::open(3, &mut Cells::over(&mut memory)).err(),
         Some(Refusal::SizeNotAllowed)
     );
     assert_eq!(rt;
-        refusal_of(Empty::open(4, &mut Cells::over(&mut memory))),
+        Empty::open(4, &mut Cells::over(&mut memory)).err(),
         Some(Refusal::MemoryTooShort)
     );
     assert_eq!(rt;
@@ -232,10 +216,7 @@ fn a_table_opens_for_legal_sizes_only(rt: HostRuntime) {
         Some(0),
         "a refused open leaves the memory"
     );
-    assert_eq!(rt;
-        refusal_of(Empty::open(2, &mut Cells::over(&mut memory))),
-        None
-    );
+    assert_eq!(rt; Empty::open(2, &mut Cells::over(&mut memory)).err(), None);
     assert_eq!(rt; memory[7].price(), None, "the needed cells are nothing");
     assert_eq!(rt; memory[8].price(), Some(0), "what lies behind remains");
 }

@@ -8,6 +8,11 @@ abbrev pub fact_text : Option ℕ → List ℕ
 fact_text None = codes "never"
 fact_text (Some price) = cond (price == 0) (codes "free") (decimal price)
 
+-- the same with the words and the price laid out in a column
+abbrev pub fact_cell : (List ℕ → List ℕ) → (ℕ → List ℕ) → Option ℕ → List ℕ
+fact_cell words amount None = words (codes "never")
+fact_cell words amount (Some price) = cond (price == 0) (words (codes "free")) (amount price)
+
 -- four texts side by side, each at the right end of its column: 5, 6, 10 and 11 wide, two spaces between
 abbrev pub table_row : List ℕ → List ℕ → List ℕ → List ℕ → List ℕ
 table_row first second first_wins second_wins =

@@ -4,14 +4,13 @@ ghost use Rattle.texts.specs.Columns.{aligned};
 
 use std::alloc::{AllocError, Global};
 
-// The text at the right end of a column; one that is too long is left as it is.
+// The text at the right end of a column; one that is too long is left as it is. For whoever prints
+// texts in columns of bytes; the lines of this crate are formatted by width.
 pub fn right_aligned(heap: Global, width: usize, text: &str) -> Result<String, AllocError>
     ensures stands_at_the_right_end { IfOk result (λ s. string_bytes s ≡ aligned width text.now) }
 {
-    let mut cell = String::new(heap);
-    for _ in 0..width.saturating_sub(text.len()) {
-        cell.push(' ')?;
-    }
+    // a format's width would count characters
+    let mut cell = " ".repeat(heap, width.saturating_sub(text.len()))?;
     cell.push_str(text)?;
     Ok(cell)
 }

@@ -1,4 +1,4 @@
-// What the program says of itself.
+// What the program says of itself: a constant text.
 ghost use Rattle.std.specs.Prelude.{◌≡◌};
 ghost use Rattle.texts.specs.Help.{help_text};
 

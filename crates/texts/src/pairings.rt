@@ -1,37 +1,35 @@
 // The table of pairings: what it takes for each of two entrants to beat the other.
-ghost use Rattle.std.specs.Prelude.{◌≡◌, IfOk, string_bytes};
-ghost use Rattle.texts.specs.Pairings.{fact_text, table_row, pairing_header, pairing_line};
+ghost use Rattle.std.specs.Prelude.{◌≡◌, IfOk, Some, string_bytes};
+ghost use Rattle.std.specs.Fmt.{styled_text, styled_decimal};
+ghost use Rattle.texts.specs.Pairings.{fact_text, fact_cell, pairing_header, pairing_line};
 
-use crate::columns::right_aligned;
 use facts::prices::Fact;
 use std::alloc::{AllocError, Global};
+use std::fmt;
 
-// A win that costs nothing is free; one that no price buys never comes.
-pub fn fact_text(heap: Global, fact: Fact) -> Result<String, AllocError>
-    ensures reads_free_or_the_price_or_never { IfOk result (λ s. string_bytes s ≡ fact_text fact) }
-{
-    match fact {
-        Some(0) => String::from_str(heap, "free"),
-        Some(price) => format!(in heap; "{price}"),
-        None => String::from_str(heap, "never"),
+// A fact as people read it. A win that costs nothing is free; one that no price buys never comes.
+#[derive(Clone, Copy)]
+struct Reading(Fact);
+
+impl fmt::Display for Reading {
+    ghost output = { λ r. Some (fact_text r.0) };
+
+    ghost styled_output = { λ r spec. Some (fact_cell (styled_text spec) (styled_decimal spec) r.0) };
+
+    fn fmt<W: fmt::Write>(&self, f: &mut fmt::Formatter<W>) -> fmt::Result {
+        match self.0 {
+            Some(0) => f.pad("free"),
+            Some(price) => price.fmt(f),
+            None => f.pad("never"),
+        }
     }
 }
 
-// One row under the titles of `pairing_header`, in columns as wide as those titles.
-fn table_row(
-    heap: Global,
-    first: &str,
-    second: &str,
-    first_wins: &str,
-    second_wins: &str,
-) -> Result<String, AllocError>
-    ensures { IfOk result (λ s. string_bytes s ≡ table_row first.now second.now first_wins.now second_wins.now) }
+// That text by itself, for whoever has a fact and no line.
+pub fn fact_text(heap: Global, fact: Fact) -> Result<String, AllocError>
+    ensures reads_free_or_the_price_or_never { IfOk result (λ s. string_bytes s ≡ fact_text fact) }
 {
-    let first = right_aligned(heap, 5, first)?;
-    let second = right_aligned(heap, 6, second)?;
-    let first_wins = right_aligned(heap, 10, first_wins)?;
-    let second_wins = right_aligned(heap, 11, second_wins)?;
-    format!(in heap; "{first}  {second}  {first_wins}  {second_wins}")
+    Reading(fact).to_string(heap)
 }
 
 pub fn pairing_header() -> &'static str
@@ -40,7 +38,8 @@ pub fn pairing_header() -> &'static str
     "first  second  first wins  second wins"
 }
 
-// The entrants a and b, what it takes for a to beat b, and for b to beat a.
+// The entrants a and b, what it takes for a to beat b, and for b to beat a; in columns as wide as
+// the titles of `pairing_header`.
 pub fn pairing_line(
     heap: Global,
     a: usize,
@@ -49,9 +48,7 @@ pub fn pairing_line(
 ) -> Result<String, AllocError>
     ensures tells_the_entrants_and_then_their_facts { IfOk result (λ s. string_bytes s ≡ pairing_line a b facts) }
 {
-    let first = format!(in heap; "{a}")?;
-    let second = format!(in heap; "{b}")?;
-    let first_wins = fact_text(heap, facts.0)?;
-    let second_wins = fact_text(heap, facts.1)?;
-    table_row(heap, &first, &second, &first_wins, &second_wins)
+    let first_wins = Reading(facts.0);
+    let second_wins = Reading(facts.1);
+    format!(in heap; "{a:>5}  {b:>6}  {first_wins:>10}  {second_wins:>11}")
 }

@@ -5,7 +5,7 @@ ghost use Rattle.texts.specs.Refusals.{cause_text, mend_text, refusal_line, shee
 use facts::refusals::Refusal;
 use std::alloc::{AllocError, Global};
 
-// What is wrong.
+// What is wrong. A refusal has two texts, this one and `mend_text`, and a Display could be only one.
 pub fn cause_text(refusal: Refusal) -> &'static str
     ensures says_what_is_wrong { result.now ≡ cause_text refusal }
 {
@@ -93,23 +93,22 @@ pub fn mend_text(refusal: Refusal) -> &'static str
 pub fn refusal_line(heap: Global, refusal: Refusal) -> Result<String, AllocError>
     ensures tells_the_number_and_the_cause { IfOk result (λ s. string_bytes s ≡ refusal_line refusal) }
 {
-    let number = refusal.number();
-    let cause = cause_text(refusal);
-    format!(in heap; "refused by {number}: {cause}")
+    format!(in heap; "refused by {}: {}", refusal.number(), cause_text(refusal))
 }
 
 // With the word of the sheet at which the reading stopped.
 pub fn sheet_refusal_line(heap: Global, refusal: Refusal, word: usize) -> Result<String, AllocError>
     ensures tells_the_number_the_word_and_the_cause { IfOk result (λ s. string_bytes s ≡ sheet_refusal_line refusal word) }
 {
-    let number = refusal.number();
-    let cause = cause_text(refusal);
-    format!(in heap; "refused by {number} at word {word}: {cause}")
+    format!(in heap;
+        "refused by {} at word {word}: {}",
+        refusal.number(),
+        cause_text(refusal)
+    )
 }
 
 pub fn mend_line(heap: Global, refusal: Refusal) -> Result<String, AllocError>
     ensures tells_what_to_mend { IfOk result (λ s. string_bytes s ≡ mend_line refusal) }
 {
-    let advice = mend_text(refusal);
-    format!(in heap; "to mend: {advice}")
+    format!(in heap; "to mend: {}", mend_text(refusal))
 }

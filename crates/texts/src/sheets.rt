@@ -5,6 +5,7 @@ ghost use Rattle.texts.specs.Sheets.{kind_text, size_line, kind_line};
 use sources::kind::SourceKind;
 use std::alloc::{AllocError, Global};
 
+// A constant text, which is handed out as it is; a Display would be no plainer.
 pub fn kind_text(kind: SourceKind) -> &'static str
     ensures is_the_name_of_the_kind { result.now ≡ kind_text kind }
 {
@@ -25,7 +26,5 @@ pub fn size_line(heap: Global, size: usize) -> Result<String, AllocError>
 pub fn kind_line(heap: Global, kind: SourceKind) -> Result<String, AllocError>
     ensures tells_the_kind_and_its_number { IfOk result (λ s. string_bytes s ≡ kind_line kind) }
 {
-    let name = kind_text(kind);
-    let number = kind.number();
-    format!(in heap; "source:   {name} ({number})")
+    format!(in heap; "source:   {} ({})", kind_text(kind), kind.number())
 }

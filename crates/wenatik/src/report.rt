@@ -1,5 +1,5 @@
 // The report of a sheet: who can win, by how many draws, and at what least bribe.
-use crate::told::told;
+use crate::failure::Failure;
 use algebra::algebra::Algebra;
 use algebra::bribe::Bribe;
 use algebra::draws::Draws;
@@ -16,55 +16,60 @@ use table::stages::Complete;
 fn memory_for<V: Algebra + Clone, S: MatchSource>(
     rt: &HostRuntime,
     source: &S,
-) -> anyhow::Result<Vec<V>> {
-    let count = told(rt, cells_needed(source.size()))?;
+) -> Result<Vec<V>, Failure> {
+    let count = cells_needed(source.size())?;
     Ok(vec![in rt.alloc(); V::nothing(); count]?)
 }
 
-// Every entrant's figure.
+// Every entrant's figure. A `map` over the entrants would keep the cells borrowed while each turn
+// borrows them again, and the check refuses that.
 fn figures<V: Algebra>(
     rt: &HostRuntime,
     table: &Complete<V>,
     cells: &mut Cells<V>,
     n: usize,
-) -> anyhow::Result<Vec<V>> {
+) -> Result<Vec<V>, Failure> {
     let mut each = Vec::new(rt.alloc());
     for entrant in 0..n {
-        each.push(told(rt, table.figure(cells, entrant))?)?;
+        each.push(table.figure(cells, entrant)?)?;
     }
     Ok(each)
 }
+
+// The three below differ in the algebra, and in what else is asked. One generic function would need
+// cells of an algebra that it does not know, whose grid is not known to fit the address space. One
+// table stands at a time, so that a report needs no more memory than its largest.
 
 // Whether each entrant can win, and the set of those who can.
 fn chances<S: MatchSource>(
     rt: &HostRuntime,
     source: &S,
-) -> anyhow::Result<(Vec<Possibility>, u32)> {
+) -> Result<(Vec<Possibility>, u32), Failure> {
     let mut memory = memory_for(rt, source)?;
     let mut cells = Cells::over(&mut memory);
-    let table = told(rt, fill_afresh(source, &mut cells))?;
+    let table = fill_afresh(source, &mut cells)?;
     let each = figures(rt, &table, &mut cells, source.size())?;
-    Ok((each, told(rt, table.winners(&mut cells))?))
+    Ok((each, table.winners(&mut cells)?))
 }
 
 // By how many draws each entrant wins, and their tally.
-fn draws<S: MatchSource>(rt: &HostRuntime, source: &S) -> anyhow::Result<(Vec<Draws>, Draws)> {
+fn draws<S: MatchSource>(rt: &HostRuntime, source: &S) -> Result<(Vec<Draws>, Draws), Failure> {
     let mut memory = memory_for(rt, source)?;
     let mut cells = Cells::over(&mut memory);
-    let table = told(rt, fill_afresh(source, &mut cells))?;
+    let table = fill_afresh(source, &mut cells)?;
     let each = figures(rt, &table, &mut cells, source.size())?;
-    Ok((each, told(rt, table.tally(&mut cells))?))
+    Ok((each, table.tally(&mut cells)?))
 }
 
 // At what least bribe each entrant wins.
-fn bribes<S: MatchSource>(rt: &HostRuntime, source: &S) -> anyhow::Result<Vec<Bribe>> {
+fn bribes<S: MatchSource>(rt: &HostRuntime, source: &S) -> Result<Vec<Bribe>, Failure> {
     let mut memory = memory_for(rt, source)?;
     let mut cells = Cells::over(&mut memory);
-    let table = told(rt, fill_afresh(source, &mut cells))?;
+    let table = fill_afresh(source, &mut cells)?;
     figures(rt, &table, &mut cells, source.size())
 }
 
-pub fn print_report<S: MatchSource>(rt: &HostRuntime, source: &S) -> anyhow::Result<()> {
+pub(crate) fn print_report<S: MatchSource>(rt: &HostRuntime, source: &S) -> Result<(), Failure> {
     let (chances, winners) = chances(rt, source)?;
     let (draws, tally) = draws(rt, source)?;
     let bribes = bribes(rt, source)?;

@@ -1,7 +1,7 @@
-use Rattle.std.proofs.Common.{◌≡◌, string_bytes}
-use Rattle.reports.specs.Winners.{winners_below}
+use Rattle.std.proofs.Common.{◌≡◌, ◌++◌, codes, string_bytes}
+use Rattle.reports.specs.Winners.{spaced}
 use Rattle.reports.proofs.winners.winners_line.Given as goal
 
--- the members among the entrants so far
+-- the members so far
 abbrev pub invariant-loop-entrant : goal.invariant-loop-entrant
-invariant-loop-entrant l = string_bytes l.line ≡ winners_below l.winners l.entrant-counter
+invariant-loop-entrant l = string_bytes l.line ≡ codes "winners:" ++ spaced l.yielded

@@ -1,41 +1,45 @@
-use Rattle.std.proofs.Common.{◌≡◌, ℕ, ◌+◌, ◌-◌, ◌/◌, ◌<◌, List, ◌∷◌, map, length, sym, ap, ◌∙◌, arith}
-use Rattle.std.specs.List.{range_with_len}
-use Rattle.sheets.specs.declared.words.Word.{Word}
-use Rattle.sheets.specs.Bytes.{word_at}
-use Rattle.sheets.specs.Words.{word_of}
+use Rattle.std.proofs.Common.{◌≡◌, ◌+◌, [], map, length, drop, get_or, Err, Result, sym, ap, ◌∙◌, subst, arith}
+use Rattle.std.proofs.lemmas.List.{drop_all}
+use Rattle.std.proofs.lemmas.Result.{err_from_is_err_and}
+use Rattle.sheets.specs.declared.misread.Misread.{Misread}
+use Rattle.sheets.specs.declared.draft.Draft.{Draft}
 use Rattle.sheets.specs.Scanning.{Progress, scanned}
-use Rattle.sheets.specs.Machine.{progress_of}
-use Rattle.sheets.proofs.Onward.{words_open, words_end, onward, stopped, ended_refused, ended_complete}
+use Rattle.sheets.specs.Machine.{word_from, progress_of, Ended}
+use Rattle.sheets.proofs.Onward.{rows_open, begun, onward, not_begun, stopped, ended}
 use Rattle.sheets.proofs.reader.scan.Goals as goal
 
--- the words behind an index
-abbrev rest : List ℕ → ℕ → List Word
-rest bytes i = map word_of (map (word_at bytes) (range_with_len i (length bytes / 4 - i)))
+pub returns-in_err-reader : goal.returns-in_err-reader
+returns-in_err-reader c =
+    let p = err_from_is_err_and c.from_residual.result c.from_residual.ensures.1 in
+    rw (p.1, p.2) (not_begun (word_from c.args.head.now) (map word_from c.args.rows.now) c.open.result c.in_err-reader.field-0.0 (rw c.word_from.ensures at c.open.ensures) (sym c.in_err-reader.ensures))
 
--- a scan from an index on takes up the word there
-take_up : (p : Progress) (bytes : List ℕ) (i : ℕ) (w : Word) → i < length bytes / 4 → w ≡ word_of (word_at bytes i) → scanned p (rest bytes i) i ≡ scanned p (w ∷ rest bytes (i + 1)) i
-take_up p bytes i w h e = ap (λ ws. scanned p (map word_of ws) i) (words_open (word_at bytes) i (length bytes / 4) h) ∙ ap (λ x. scanned p (x ∷ rest bytes (i + 1)) i) (sym e)
+pub loop-index-init : goal.loop-index-init
+loop-index-init c = begun (word_from c.args.head.now) (map word_from c.args.rows.now) c.open.result c.in_ok-reader.reader (rw c.word_from.ensures at c.open.ensures) (sym c.in_ok-reader.ensures)
 
-pub returns-in-Err : goal.returns-in-Err
-returns-in-Err c =
-    let p = progress_of c.loop-index.reader in
+pub returns-in_err-at_word : goal.returns-in_err-at_word
+returns-in_err-at_word c =
+    let p = err_from_is_err_and c.from_residual-in_err-at_word.result c.from_residual-in_err-at_word.ensures.1 in
+    let before = progress_of c.loop-index.reader in
     let i = c.loop-index.index in
-    let bytes = c.args.bytes.now in
-    ended_refused _ _
-    (c.loop-index.invariant.1 ∙ take_up p bytes i c.word_of.result c.loop-index-test.true (c.word_of.ensures ∙ ap word_of c.word_at.ensures)
-    ∙ stopped p c.word_of.result (rest bytes (i + 1)) i c.in-Err.refusal c.step.new.self c.in-Err.ensures)
+    let rows = c.args.rows.now in
+    let m = c.in_err-at_word.field-0.0 in
+    rw (p.1, p.2) (subst (λ (o : Result Progress Misread). Ended o (Err m)) (sym (c.loop-index.invariant ∙ ap (λ ws. scanned before ws (i + 1)) (rows_open rows i c.loop-index-test.true)))
+    (stopped before (word_from (get_or rows i [])) (map word_from (drop (i + 1) rows)) (i + 1) c.step.result c.step.new.self m (rw c.word_from-in-loop-index.ensures at c.step.ensures) (sym c.in_err-at_word.ensures)))
 
 pub loop-index-preserved : goal.loop-index-preserved
 loop-index-preserved c =
-    let p = progress_of c.loop-index.reader in
+    let before = progress_of c.loop-index.reader in
     let i = c.loop-index.index in
-    let bytes = c.args.bytes.now in
-    let t = onward p c.word_of.result (rest bytes (i + 1)) i c.step.new.self c.in_default.ensures in
-    (t.1, c.loop-index.invariant.1 ∙ take_up p bytes i c.word_of.result c.loop-index-test.true (c.word_of.ensures ∙ ap word_of c.word_at.ensures) ∙ t.0)
+    let rows = c.args.rows.now in
+    c.loop-index.invariant ∙ ap (λ ws. scanned before ws (i + 1)) (rows_open rows i c.loop-index-test.true)
+    ∙ onward before (word_from (get_or rows i [])) (map word_from (drop (i + 1) rows)) (i + 1) c.step.result c.step.new.self tt (rw c.word_from-in-loop-index.ensures at c.step.ensures) (sym c.in_ok-at_word.ensures)
 
 pub returns : goal.returns
 returns c =
-    let i = c.loop-index.index in
-    let bytes = c.args.bytes.now in
-    let end : i ≡ length bytes / 4 = omega arith in
-    ended_complete _ c.loop-index.reader i (c.loop-index.invariant.1 ∙ ap (λ ws. scanned (progress_of c.loop-index.reader) (map word_of ws) i) (words_end (word_at bytes) i (length bytes / 4) end)) (sym c.if-not-is_complete.ensures)
+    let end = progress_of c.loop-index.reader in
+    let rows = c.args.rows.now in
+    let last : c.loop-index.index ≡ length rows = omega arith in
+    let to : scanned end (map word_from (drop c.loop-index.index rows)) (c.loop-index.index + 1) ≡ scanned end [] (length rows + 1) =
+    ap (λ ws. scanned end (map word_from ws) (c.loop-index.index + 1)) (drop_all c.loop-index.index rows c.loop-index-test.false) ∙ ap (λ i. scanned end [] (i + 1)) last in
+    subst (λ (o : Result Progress Misread). Ended o c.at_word-2.result) (sym (c.loop-index.invariant ∙ to))
+    (subst (λ (r : Result Draft Misread). Ended (scanned end [] (length rows + 1)) r) (sym c.at_word-2.ensures) (ended end (length rows + 1) c.finish.result c.finish.ensures))

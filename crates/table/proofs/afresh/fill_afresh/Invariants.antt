@@ -1,14 +1,12 @@
-use Rattle.std.proofs.Common.{◌≡◌, map}
+use Rattle.std.proofs.Common.{◌≡◌}
 use Rattle.figures.specs.Fields.{field_of}
-use Rattle.cells.specs.Rooms.{needed}
-use Rattle.table.specs.Fillings.{FilledTo, TailKept}
+use Rattle.table.proofs.Opened.{UnderWay}
 use Rattle.table.proofs.afresh.fill_afresh.Given as goal
 
 abbrev pub invariant-loop : goal.invariant-loop
 invariant-loop g l =
-    let m = g.V.Algebra in
-    let f = field_of (g.S.MatchSource.sheet l.source) in
-    (l.stage.size ≡ f.size) × (l.stage.level ≡ l.counter)
-    × FilledTo m.semiring f l.stage.level (map m.means l.cells.memory.now)
-    × TailKept (needed f.size) l.initial.cells.memory.now l.cells.memory.now
-    × (l.cells.memory.ghost_name ≡ l.initial.cells.memory.ghost_name)
+    record {
+      level_counted : l.stage.level ≡ l.counter;
+      under_way : UnderWay g.V.Algebra.semiring g.V.Algebra.means (field_of (g.S.MatchSource.sheet l.source)) l.stage.size.entrants l.stage.level l.fn.cells.memory.now l.cells.memory.now;
+      same_memory : l.cells.memory.ghost_name ≡ l.fn.cells.memory.ghost_name;
+    }

@@ -1,8 +1,14 @@
-use Rattle.std.proofs.Common.{◌<◌, length, arith}
-use Rattle.table.proofs.Blanking.{one_cleared}
+use Rattle.std.proofs.Common.{rules, arith}
+use Rattle.std.proofs.lemmas.List.{length-take-le}
+use Rattle.table.proofs.Blanking.{given_nothing, cleared_front}
 use Rattle.table.proofs.clearing.clear.Goals as goal
 
-pub loop-i-preserved : goal.loop-i-preserved
-loop-i-preserved g c =
-    let l : c.loop-i.i < length c.loop-i.memory = omega (arith, c.loop-i-test.true, c.requires, c.loop-i.invariant.same_length) in
-    one_cleared g.V.Algebra.semiring g.V.Algebra.means c.loop-i.i c.nothing.result c.args.memory.now c.loop-i.memory l c.nothing.ensures.means_nothing c.loop-i.invariant
+pub returns : goal.returns
+returns g c =
+    let m = g.V.Algebra in
+    let xs = c.args.memory.now in
+    let ys = c.fill_with.new.self in
+    let blank = given_nothing m.semiring m.means _ (λ f v f' h. search rules) _ ys _ c.fill_with.ensures.ran.1 in
+    record {
+      clears_those_alone = cleared_front m.semiring m.means c.args.count xs ys c.requires (omega (arith, length-take-le {A = g.row.V.Denot}, c.fill_with.ensures.len)) blank;
+    }

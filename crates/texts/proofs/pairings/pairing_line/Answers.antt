@@ -1,19 +1,25 @@
-use Rattle.std.proofs.Common.{◌≡◌, ℕ, List, string_bytes, ◌∙◌}
+use Rattle.std.proofs.Common.{◌≡◌, ℕ, List, ◌++◌, ◌==◌, codes, Option, Some, None, string_bytes, ap, ◌∙◌, refl}
+use Rattle.std.specs.Fmt.{styled_text, styled_decimal, char_count, take_chars}
+use Rattle.texts.specs.Columns.{aligned}
 use Rattle.texts.specs.Numbers.{decimal}
-use Rattle.texts.specs.Pairings.{fact_text, table_row}
+use Rattle.texts.specs.Pairings.{fact_text, fact_cell}
 use Rattle.texts.proofs.Lines.{made_same}
+use Rattle.texts.proofs.Padded.{numeral_in, text_in, numeral_aligned, text_aligned, word_or_numeral_aligned}
 use Rattle.texts.proofs.pairings.pairing_line.Goals as goal
 
-same_row : {a b f g : List ℕ} (a' b' f' g' : List ℕ) → a ≡ a' → b ≡ b' → f ≡ f' → g ≡ g' → table_row a b f g ≡ table_row a' b' f' g'
-same_row _ _ _ _ p q r s = λ i. table_row (p i) (q i) (r i) (s i)
+fact_aligned : (width : ℕ) (fact : Option ℕ) → fact_cell (text_in width) (λ price. numeral_in width (decimal price)) fact ≡ aligned width (fact_text fact)
+unfolding char_count take_chars
+fact_aligned width None = text_aligned width (codes "never") refl refl
+fact_aligned width (Some price) = word_or_numeral_aligned width (codes "free") (decimal price) refl refl (price == 0)
 
--- each cell holds the text that was made for it
+abbrev spaced : List ℕ → List ℕ → List ℕ → List ℕ → List ℕ
+spaced first second first_wins second_wins = first ++ (codes "  " ++ (second ++ (codes "  " ++ (first_wins ++ (codes "  " ++ second_wins)))))
+
+-- each cell stands at the right end of its column
 pub returns : goal.returns
 returns c =
-    let same =
-    same_row (decimal c.args.a) (decimal c.args.b) (fact_text c.args.facts.0) (fact_text c.args.facts.1)
-    (c.deref.ensures ∙ c.in_ok-first.ensures.ok)
-    (c.deref-2.ensures ∙ c.in_ok-second.ensures.ok)
-    (c.deref-3.ensures ∙ c.in_ok-first_wins.ensures.reads_free_or_the_price_or_never)
-    (c.deref-4.ensures ∙ c.in_ok-second_wins.ensures.reads_free_or_the_price_or_never) in
-    record { tells_the_entrants_and_then_their_facts = made_same string_bytes c.table_row.result same c.table_row.ensures }
+    let first = ap (λ spec. styled_decimal spec c.args.a) c.laid_out.ensures ∙ numeral_aligned 5 (decimal c.args.a) in
+    let second = ap (λ spec. styled_decimal spec c.args.b) c.laid_out-2.ensures ∙ numeral_aligned 6 (decimal c.args.b) in
+    let first_wins = ap (λ spec. fact_cell (styled_text spec) (styled_decimal spec) c.args.facts.0) c.laid_out-3.ensures ∙ fact_aligned 10 c.args.facts.0 in
+    let second_wins = ap (λ spec. fact_cell (styled_text spec) (styled_decimal spec) c.args.facts.1) c.laid_out-4.ensures ∙ fact_aligned 11 c.args.facts.1 in
+    record { tells_the_entrants_and_then_their_facts = made_same string_bytes c.format.result (λ i. spaced (first i) (second i) (first_wins i) (second_wins i)) c.format.ensures.ok }

@@ -1,10 +1,6 @@
 use Rattle.std.proofs.Common.{◌∙◌, arith}
-use Rattle.figures.proofs.Loops.{next_less}
 use Rattle.cells.proofs.Steps.{step_missed, trying_next}
 use Rattle.cells.proofs.halves.Halves.due.Goals as goal
-
-pub loop-rest-smaller : goal.loop-rest-smaller
-loop-rest-smaller c = next_less c.loop-rest.rest c.args.self.now.others (omega arith)
 
 pub loop-rest-preserved : goal.loop-rest-preserved
 loop-rest-preserved c =

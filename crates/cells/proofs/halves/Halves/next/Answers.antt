@@ -3,17 +3,13 @@ use Rattle.cells.specs.Walks.{ahead}
 use Rattle.cells.proofs.Steps.{fits, due_given, trying_next, rest_within, from_end, ahead_next, index_is, place_within}
 use Rattle.cells.proofs.halves.Halves.next.Goals as goal
 
-pub returns-then-rest-eq0 : goal.returns-then-rest-eq0
+pub returns-then-rest-eq0-clause-is_the_first_ahead_or_none_where_none_is :
+    goal.returns-then-rest-eq0-clause-is_the_first_ahead_or_none_where_none_is
 unfolding ahead
-returns-then-rest-eq0 c =
+returns-then-rest-eq0-clause-is_the_first_ahead_or_none_where_none_is c =
     let w = c.args.self.now in
     let none = c.due-rest.ensures.is_what_the_next_half_leaves.0 ∙ from_end w.set w.entrant c.due-rest.result c.if-rest-eq0.true in
-    record {
-      is_the_first_ahead_or_none_where_none_is = λ f. (w.left f ∙ none, w.left f ∙ none);
-      place_is_its_index_among_the_halves = refl;
-      is_a_half_that_holds_the_entrant_with_its_rest = tt;
-      stays_with_its_set_and_entrant = (refl, refl);
-    }
+    λ f. (w.left f ∙ none, w.left f ∙ none)
 
 pub overflow_add-self : goal.overflow_add-self
 overflow_add-self c =
@@ -33,20 +29,26 @@ invariant_of-self c =
       left = ahead_next w.set w.entrant w.rest w.place _ _ w.left g;
     }
 
-pub returns : goal.returns
+pub returns-clause-is_the_first_ahead_or_none_where_none_is :
+    goal.returns-clause-is_the_first_ahead_or_none_where_none_is
 unfolding ahead
-returns c =
+returns-clause-is_the_first_ahead_or_none_where_none_is c =
     let w = c.args.self.now in
-    let s = w.set in
-    let e = w.entrant in
     let r = c.due-rest.result in
-    let l : 0 < r = omega arith in
-    let d = c.due-rest.ensures.is_what_the_next_half_leaves.1 l in
-    let g = due_given s e w.others w.wanted w.rest r c.due-rest.ensures.is_what_the_next_half_leaves l in
-    let in-set = rest_within s e w.others w.wanted r d.0 in
-    record {
-      is_the_first_ahead_or_none_where_none_is = λ f. w.left f ∙ g ∙ ap (λ xs. (s - r) ∷ xs) (sym (ahead_next s e w.rest w.place _ _ w.left g f));
-      place_is_its_index_among_the_halves = (refl, refl, index_is s e w.rest w.place _ _ w.left g);
-      is_a_half_that_holds_the_entrant_with_its_rest = (fits s e w.others w.wanted r d.0 d.1, omega arith);
-      stays_with_its_set_and_entrant = (refl, refl);
-    }
+    let g = due_given w.set w.entrant w.others w.wanted w.rest r c.due-rest.ensures.is_what_the_next_half_leaves (omega arith) in
+    λ f. w.left f ∙ g ∙ ap (λ xs. (w.set - r) ∷ xs) (sym (ahead_next w.set w.entrant w.rest w.place _ _ w.left g f))
+
+pub returns-clause-place_is_its_index_among_the_halves : goal.returns-clause-place_is_its_index_among_the_halves
+returns-clause-place_is_its_index_among_the_halves c =
+    let w = c.args.self.now in
+    let g = due_given w.set w.entrant w.others w.wanted w.rest c.due-rest.result c.due-rest.ensures.is_what_the_next_half_leaves (omega arith) in
+    (refl, refl, index_is w.set w.entrant w.rest w.place _ _ w.left g)
+
+pub returns-clause-is_a_half_that_holds_the_entrant_with_its_rest :
+    goal.returns-clause-is_a_half_that_holds_the_entrant_with_its_rest
+returns-clause-is_a_half_that_holds_the_entrant_with_its_rest c =
+    let w = c.args.self.now in
+    let r = c.due-rest.result in
+    let d = c.due-rest.ensures.is_what_the_next_half_leaves.1 (omega arith) in
+    let in-set = rest_within w.set w.entrant w.others w.wanted r d.0 in
+    (fits w.set w.entrant w.others w.wanted r d.0 d.1, omega arith)

@@ -2,6 +2,6 @@ use Rattle.std.proofs.Common.{refl}
 use Rattle.cells.specs.Walks.{ahead}
 use Rattle.cells.proofs.halves.Halves.of.Goals as goal
 
-pub returns : goal.returns
+pub returns-clause-all_halves_are_ahead : goal.returns-clause-all_halves_are_ahead
 unfolding ahead
-returns c = record { all_halves_are_ahead = λ f. refl; is_of_that_set_and_entrant = (refl, refl); none_was_given = refl }
+returns-clause-all_halves_are_ahead c = λ f. refl

@@ -1,11 +1,17 @@
-use Rattle.std.proofs.Common.{refl}
-use Rattle.sheets.specs.Holdings.{sheet_at, plain_sheet}
-use Rattle.sheets.proofs.Alike.{alike, same_progress}
+use Rattle.std.proofs.Common.{Ok, Result, sym, refl, ap, ◌∙◌, subst}
+use Rattle.facts.specs.declared.refusals.Refusal.{Refusal}
+use Rattle.sheets.specs.declared.rows.Said.{Said}
+use Rattle.sheets.specs.Holdings.{plain_sheet}
+use Rattle.sheets.specs.Drafts.{draft_kind, draft_sheet}
+use Rattle.sheets.specs.Scanning.{opening, advanced_by}
+use Rattle.sheets.specs.Machine.{Opened}
+use Rattle.sheets.proofs.Alike.{same_progress}
 use Rattle.sheets.proofs.reader.Reader.open.Goals as goal
 
 pub returns : goal.returns
 returns c =
-    let k = c.args.kind in
-    let after = sheet_at k c.in_ok-self.field-0 in
-    let new = plain_sheet k c.args.size in
-    (refl, same_progress k after new 0 c.awaited_from-self.result c.awaited_from-self.ensures (alike after new (c.in_ok-self.ensures.each_is_plain_or_the_size_is_refused.1 k)))
+    let d = c.in_ok-plain-in-Head.field-0 in
+    let k = c.in-Head.kind in
+    let plain = c.in_ok-plain-in-Head.ensures in
+    subst (λ (j : Result Said Refusal). Opened (advanced_by opening j) (Ok (record { draft = d; from = 0 }))) (ap Ok (sym c.in-Head.is) ∙ c.in_ok-size.ensures)
+    (record { draft = d; from = 0 }, refl, same_progress (draft_kind d) k (draft_sheet d) (plain_sheet k c.in-Head.size) 0 plain.1 plain.2)
