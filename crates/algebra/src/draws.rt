@@ -6,7 +6,7 @@ ghost use Rattle.algebra.specs.Drawing.{Count, counted, drawing};
 ghost use Rattle.algebra.specs.Counts.{counts_lawful};
 
 use crate::algebra::Algebra;
-use facts::prices::{Fact, is_free};
+use facts::prices::Fact;
 use std::fmt;
 
 // Stands for that many draws or more.
@@ -72,8 +72,9 @@ impl Algebra for Draws {
     }
 
     fn weight(fact: Fact) -> Draws {
-        Draws {
-            count: u32::from(is_free(fact)),
+        match fact {
+            Some(price) if price == 0 => Draws { count: 1 },
+            _ => Draws { count: 0 },
         }
     }
 }

@@ -5,7 +5,7 @@ ghost use Rattle.algebra.specs.Chances.{possibilities_lawful, possibilities_choo
 
 use crate::algebra::Algebra;
 use crate::choosing::Choosing;
-use facts::prices::{Fact, is_free};
+use facts::prices::Fact;
 use std::fmt;
 
 #[derive(Clone, Copy, PartialEq, Eq, Debug)]
@@ -62,8 +62,9 @@ impl Algebra for Possibility {
     }
 
     fn weight(fact: Fact) -> Possibility {
-        Possibility {
-            possible: is_free(fact),
+        match fact {
+            Some(price) if price == 0 => Possibility { possible: true },
+            _ => Possibility { possible: false },
         }
     }
 }

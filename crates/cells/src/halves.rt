@@ -73,7 +73,7 @@ impl Halves {
         rest
     }
 
-    // No plainer as the iterator's alone, which goes by this one: this promises more than that can.
+    // For whoever takes the halves one at a time; the iterator's goes by this one.
     pub fn next(&mut self) -> Option<Half>
         ensures is_the_first_ahead_or_none_where_none_is { FirstGiven self.old.set self.old.entrant self.old.place result self.new.place }
         ensures place_is_its_index_among_the_halves { PlaceTold self.old.set self.old.entrant self.old.place result self.new.place }

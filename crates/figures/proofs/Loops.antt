@@ -1,10 +1,14 @@
 -- What loops over sets want: one part less. Assumes nothing.
-use Rattle.std.proofs.Common.{◌≡◌, ℕ, ◌+◌, ◌-◌, ◌*◌, ◌/◌, ◌%◌, ◌^◌, ◌<◌, ◌≤◌, min, ◌⊎◌, ◌∙◌, inl, inr, arith}
+use Rattle.std.proofs.Common.{◌≡◌, ℕ, suc, ◌+◌, ◌-◌, ◌*◌, ◌/◌, ◌%◌, ◌^◌, ◌<◌, ◌≤◌, min, ◌⊎◌, ◌∙◌, inl, inr, arith}
 use lib.Arith.{bin_ind}
 use lib.Bits.{bit_and, and_step, and_le_l, and_zero_r}
 use Rattle.std.proofs.lemmas.Nat.Bits as bits
 use Rattle.std.proofs.lemmas.Bool.{cases_eq}
 use Rattle.figures.proofs.Bits.{bit, Part, part_low, part_rest}
+
+-- a power of two is twice the one before
+pub pow_suc' : (e : ℕ) → 2 ^ suc e ≡ 2 * 2 ^ e
+pow_suc' e = omega arith
 
 -- s & (1 << e)
 pub and_pow : (s e : ℕ) → bit_and s (2 ^ e) ≡ bit s e * 2 ^ e

@@ -39,11 +39,6 @@ abbrev pub Each : (Word → Type 0) → List Word → Type 0
 Each P [] = Unit {0}
 Each P (w ∷ ws) = P w × Each P ws
 
-pub each_at : (P : Word → Type 0) (ws : List Word) (i : ℕ) (w : Word) → Each P ws → i < length ws → w ≡ get_or ws i w → P w
-each_at P [] i w each h is = absurd (omega arith)
-each_at P (x ∷ ws) zero w (here, rest) h is = subst P (sym is) here
-each_at P (x ∷ ws) (suc i) w (here, rest) h is = each_at P ws i w rest (omega arith) is
-
 each_gathered : (P : Word → Type 0) (f : ℕ → Option Word) → ((p : ℕ) (w : Word) → p < 256 → f p ≡ Some w → P w) → (from m : ℕ) → from + m ≤ 256 → Each P (filter_map f (range_with_len from m))
 each_gathered P f h from zero l = tt
 each_gathered P f h from (suc m) l = go (f from) refl (each_gathered P f h (from + 1) m (omega arith))
@@ -100,15 +95,17 @@ pub content_proper : (c : Content) → Each Proper (words_of_content c)
 unfolding rows_of
 content_proper c = (tt, each_gathered Proper (row_at c.kind c.size c.beats) (λ p w l h. told Proper c.kind c.size c.beats p w (λ s e. row_proper c.kind (p / 16) (p % 16) (c.beats (p / 16) (p % 16)) w e) h) 0 256 (omega arith))
 
+pub row_fits : (k : SourceKind) (n : ℕ) (beats : ℕ → ℕ → Option ℕ) (p : ℕ) (word : Word) → legal n ≡ true → ((a b : ℕ) → opponents n a b ≡ true → over_top (beats a b) ≡ false) → row_at k n beats p ≡ Some word → Fitting word
+row_fits k n beats p word leg top h =
+    told Fitting k n beats p word
+    (λ stands e. let o = stands_meet k n p stands in let m = met n (p / 16) (p % 16) o in let small = legal_small n leg in
+    row_fitting k (p / 16) (p % 16) (beats (p / 16) (p % 16)) word (omega (arith, m.0)) (omega (arith, m.1)) (top (p / 16) (p % 16) o) e) h
+
 pub content_fitting : (c : Content) → Sound c → Each Fitting (words_of_content c)
 unfolding rows_of
 content_fitting c sound =
-    let small = legal_small c.size sound.size_legal in (
-      (omega arith, kind_small c.kind),
-      each_gathered Fitting (row_at c.kind c.size c.beats) (λ p w l h. told Fitting c.kind c.size c.beats p w
-          (λ s e. let o = stands_meet c.kind c.size p s in let m = met c.size (p / 16) (p % 16) o in
-          row_fitting c.kind (p / 16) (p % 16) (c.beats (p / 16) (p % 16)) w (omega (arith, m.0)) (omega (arith, m.1)) (sound.capped (p / 16) (p % 16) o) e) h) 0 256 (omega arith),
-    )
+    let small = legal_small c.size sound.size_legal in
+    ((omega arith, kind_small c.kind), each_gathered Fitting (row_at c.kind c.size c.beats) (λ p w l h. row_fits c.kind c.size c.beats p w sound.size_legal sound.capped h) 0 256 (omega arith))
 
 -- words to bits and back
 words_bits : (ws : List Word) → Each Proper ws → Each Fitting ws → map word_of (map bits_of ws) ≡ ws

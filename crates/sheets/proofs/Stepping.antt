@@ -1,7 +1,8 @@
 -- How the rows of a sheet follow one another. Assumes nothing.
-use Rattle.std.proofs.Common.{◌≡◌, ℕ, zero, suc, ◌+◌, ◌-◌, ◌<◌, ◌≤◌, Bool, true, false, cond, ◌⊎◌, List, [], ◌∷◌, length, Some, None, Option, sym, refl, ap, ◌∙◌, inl, inr, arith}
+use Rattle.std.proofs.Common.{◌≡◌, ℕ, zero, suc, ◌+◌, ◌-◌, ◌<◌, ◌≤◌, Bool, true, false, cond, ◌⊎◌, List, [], ◌∷◌, ◌++◌, length, is_some, Some, None, Option, sym, refl, ap, ◌∙◌, inl, inr, arith, length-append}
 use Rattle.std.specs.List.{range_with_len, find, filter_map, cons_option}
 use Rattle.std.proofs.lemmas.Bool.{cases_eq}
+use Rattle.std.proofs.lemmas.List.Elements.{filter_map-append}
 use Rattle.std.proofs.lemmas.List.FromFn.{length-range_with_len}
 use Rattle.sources.specs.declared.kind.SourceKind.{SourceKind}
 use Rattle.sheets.specs.Places.{has_row, next_row}
@@ -94,3 +95,41 @@ filter_map_shorter f (x ∷ xs) = omega (arith, filter_map_shorter f xs, cons_op
 pub rows_few : (k : SourceKind) (n : ℕ) (beats : ℕ → ℕ → Option ℕ) → length (rows_of k n beats) ≤ 256
 unfolding rows_of
 rows_few k n beats = omega (arith, filter_map_shorter (row_at k n beats) (range_with_len 0 256), length-range_with_len 0 256)
+
+range_split : (m from d : ℕ) → range_with_len from (m + d) ≡ range_with_len from m ++ range_with_len (from + m) d
+range_split zero from d =
+    let e : zero + d ≡ d = omega arith in
+    let h : from ≡ from + zero = omega arith in
+    ap (range_with_len from) e ∙ ap (λ i. range_with_len i d) h
+range_split (suc m) from d =
+    let e : suc m + d ≡ suc (m + d) = omega arith in
+    let h : from + 1 + m ≡ from + suc m = omega arith in
+    ap (range_with_len from) e ∙ ap (λ ps. from ∷ ps) (range_split m (from + 1) d) ∙ ap (λ i. from ∷ (range_with_len (from + 1) m ++ range_with_len i d)) h
+
+-- what is filter_map of a range, by its parts
+pub gathered_split : {X : Type 0} (f : ℕ → Option X) (m from d : ℕ) → filter_map f (range_with_len from (m + d)) ≡ filter_map f (range_with_len from m) ++ filter_map f (range_with_len (from + m) d)
+gathered_split f m from d = ap (filter_map f) (range_split m from d) ∙ filter_map-append f (range_with_len from m) (range_with_len (from + m) d)
+
+-- one place more
+pub gathered_more : {X : Type 0} (f : ℕ → Option X) (m : ℕ) → filter_map f (range_with_len 0 (m + 1)) ≡ filter_map f (range_with_len 0 m) ++ cons_option (f m) []
+gathered_more f m = let e : 0 + m ≡ m = omega arith in gathered_split f m 0 1 ∙ ap (λ i. filter_map f (range_with_len 0 m) ++ cons_option (f i) []) e
+
+-- how many are told with one place more
+pub gathered_count : {X : Type 0} (f : ℕ → Option X) (m : ℕ) (o : Option X) → o ≡ f m → length (filter_map f (range_with_len 0 (m + 1))) ≡ length (filter_map f (range_with_len 0 m)) + cond (is_some o) 1 0
+gathered_count f m o h =
+    ap length (gathered_more f m) ∙ length-append (filter_map f (range_with_len 0 m)) (cons_option (f m) []) ∙ ap (λ n. length (filter_map f (range_with_len 0 m)) + n) (ap (λ x. length (cons_option x [])) (sym h) ∙ go o)
+  where
+    go : {Y : Type 0} (x : Option Y) → length (cons_option x []) ≡ cond (is_some x) 1 0
+    go None = refl
+    go (Some x) = refl
+
+-- all rows are those of all places
+pub rows_all : (k : SourceKind) (n : ℕ) (beats : ℕ → ℕ → Option ℕ) (m : ℕ) → m ≡ 256 → filter_map (row_at k n beats) (range_with_len 0 m) ≡ rows_of k n beats
+unfolding rows_of
+rows_all k n beats m h = ap (λ i. filter_map (row_at k n beats) (range_with_len 0 i)) h
+
+pub rows_less : (k : SourceKind) (n : ℕ) (beats : ℕ → ℕ → Option ℕ) (m : ℕ) → m ≤ 256 → length (filter_map (row_at k n beats) (range_with_len 0 m)) ≤ length (rows_of k n beats)
+rows_less k n beats m h =
+    let e : m + (256 - m) ≡ 256 = omega arith in
+    let whole = ap length (sym (rows_all k n beats (m + (256 - m)) e) ∙ gathered_split (row_at k n beats) m 0 (256 - m)) ∙ length-append (filter_map (row_at k n beats) (range_with_len 0 m)) (filter_map (row_at k n beats) (range_with_len (0 + m) (256 - m))) in
+    omega (arith, whole)

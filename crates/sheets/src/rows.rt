@@ -82,7 +82,9 @@ pub(crate) fn next_row(kind: SourceKind, size: usize, from: usize) -> Option<usi
 }
 
 // What a word says where this is awaited, or what is wrong with it: one `match` on both, with guards
-// (a rule of this project), and so as long as there are cases.
+// (a rule of this project), and so as long as there are cases. It is called for the head and for each
+// row; where it is not put into both callers, reading takes up to a third longer.
+#[inline(always)]
 pub(crate) fn judge(size: usize, awaited: Awaited, word: Word) -> Result<Said, Refusal>
     requires { size ≤ 16 }
     ensures { result ≡ judged size awaited word }

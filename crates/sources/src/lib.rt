@@ -6,7 +6,7 @@ mod kept;
 pub mod kind;
 pub mod matrix;
 pub mod order;
-mod pairing;
+pub mod pairing;
 pub mod place;
 pub mod source;
 mod square;

@@ -46,8 +46,11 @@ impl Kept for Upset {
     }
 
     fn carries(a: usize, b: usize, facts: (Fact, Fact)) -> bool {
-        let (stronger, weaker) = turned_to(a, b, facts);
-        a != b && is_free(stronger) && (weaker.is_none() || is_free(weaker))
+        match turned_to(a, b, facts) {
+            (Some(stronger), None) if stronger == 0 => a != b,
+            (Some(stronger), Some(weaker)) if stronger == 0 && weaker == 0 => a != b,
+            _ => false,
+        }
     }
 
     fn of(a: usize, b: usize, facts: (Fact, Fact)) -> Upset {

@@ -9,8 +9,12 @@ use std::alloc::{AllocError, Global};
 pub fn right_aligned(heap: Global, width: usize, text: &str) -> Result<String, AllocError>
     ensures stands_at_the_right_end { IfOk result (λ s. string_bytes s ≡ aligned width text.now) }
 {
-    // a format's width would count characters
-    let mut cell = " ".repeat(heap, width.saturating_sub(text.len()))?;
+    // A format's width would count characters. The room for the whole cell is asked for at once: behind
+    // `repeat`, the text would ask for as much again.
+    let mut cell = String::with_capacity(heap, width.max(text.len()))?;
+    for _ in 0..width.saturating_sub(text.len()) {
+        cell.push(' ')?;
+    }
     cell.push_str(text)?;
     Ok(cell)
 }

@@ -4,23 +4,16 @@ use Rattle.std.proofs.lemmas.List.{take_at}
 use Rattle.sheets.specs.Holdings.{sheet_at}
 use Rattle.sheets.specs.Contents.{content_of}
 use Rattle.sheets.specs.Writing.{bytes_for}
-use Rattle.sheets.proofs.Stepping.{rows_few}
 use Rattle.sheets.proofs.Standing.{held_sound, held_given}
 use Rattle.sheets.proofs.Filling.{whole_length}
 use Rattle.sheets.proofs.writer.write.Goals as goal
-
-pub overflow_mul-size : goal.overflow_mul-size
-overflow_mul-size c =
-    let s = sheet_at c.args.kind c.args.sources.now in
-    let few = rows_few c.args.kind s.size s.beats in
-    omega (arith, few, c.count_words-size.ensures)
 
 pub returns-then-buffer-size : goal.returns-then-buffer-size
 returns-then-buffer-size c =
     let k = c.args.kind in
     let s = sheet_at k c.args.sources.now in
     let long = whole_length k s in
-    let short = lt-ltb (length c.args.buffer.now) (length (bytes_for k s)) (omega (arith, long, c.count_words-size.ensures)) in
+    let short = lt-ltb (length c.args.buffer.now) (length (bytes_for k s)) (omega (arith, long, c.count_words-size.ensures.0)) in
     record {
       says_that_source = λ n e. absurd (cc);
       answers_the_size_or_too_short = sym (cond-true _ _ _ short);
@@ -31,15 +24,15 @@ pub put_sheet-requires : goal.put_sheet-requires
 put_sheet-requires c =
     let k = c.args.kind in
     let long = whole_length k (sheet_at k c.args.sources.now) in
-    omega (arith, long, c.count_words-size.ensures)
+    omega (arith, long, c.count_words-size.ensures.0)
 
 pub returns : goal.returns
 returns c =
     let k = c.args.kind in
     let s = sheet_at k c.args.sources.now in
     let long = whole_length k s in
-    let count : 4 * c.count_words-size.result ≡ length (bytes_for k s) = omega (arith, long, c.count_words-size.ensures) in
-    let room = le-ltb (length c.args.buffer.now) (length (bytes_for k s)) (omega (arith, long, c.count_words-size.ensures)) in
+    let count : 4 * c.count_words-size.result ≡ length (bytes_for k s) = omega (arith, long, c.count_words-size.ensures.0) in
+    let room = le-ltb (length c.args.buffer.now) (length (bytes_for k s)) (omega (arith, long, c.count_words-size.ensures.0)) in
     record {
       says_that_source = λ n e.
           let is : 4 * c.count_words-size.result ≡ n = cc in (

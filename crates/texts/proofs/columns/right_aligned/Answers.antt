@@ -1,8 +1,10 @@
-use Rattle.std.proofs.lemmas.Grind.{common_steps}
-use Rattle.std.proofs.Common.{arith}
-use Rattle.texts.proofs.Padded.{repeat_one}
+use Rattle.std.proofs.Common.{[], ◌∷◌, ◌∙◌}
+use lib.Utf8.{encode}
+use Rattle.std.proofs.lemmas.List.{replicate_more}
+use Rattle.std.proofs.lemmas.Slice.{pushed}
 use Rattle.texts.proofs.columns.right_aligned.Goals as goal
 
--- as many spaces as the text leaves of the column
-pub returns : goal.returns
-returns c = record { stands_at_the_right_end = grind (arith, common_steps, repeat_one) }
+-- one more space at the end
+pub loop-preserved : goal.loop-preserved
+unfolding encode
+loop-preserved c = pushed (32 ∷ []) c.loop.invariant c.in_ok-push.was c.push.ensures.bytes ∙ replicate_more c.loop.counter 32

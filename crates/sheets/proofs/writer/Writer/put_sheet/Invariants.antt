@@ -1,13 +1,10 @@
 use Rattle.std.proofs.Common.{◌≡◌, length}
-use Rattle.sheets.specs.Writing.{words_told}
+use Rattle.sheets.specs.Writing.{told}
 use Rattle.sheets.proofs.Written.{beginning}
 use Rattle.sheets.proofs.Filling.{done}
 use Rattle.sheets.proofs.writer.Writer.put_sheet.Given as goal
 
-abbrev pub invariant-loop-index : goal.invariant-loop-index
-invariant-loop-index l =
-    record {
-      can : (goal.iterator-loop-index).can_next l.index-iterator;
-      finite : (goal.iterator-loop-index).is_finite l.index-iterator;
-      filled : l.buffer ≡ beginning (done (words_told l.fn.self) (length l.yielded)) l.initial.buffer;
-    }
+abbrev pub invariant-loop-place : goal.invariant-loop-place
+invariant-loop-place l =
+    let bytes = done l.fn.self.kind (told l.fn.self) l.place in
+    (l.end ≡ length bytes) × (l.buffer ≡ beginning bytes l.fn.buffer)
